@@ -185,7 +185,7 @@ def files(part):
         part.expect(f"{command}, a directory", 3, "", "irectory", command, part.folder, *more)
         part.expect(f"{command}, a missing file", 3, "", str(missing), command, missing, *more)
         part.expect(f"{command}, gzip", 1, "", "gunzip", command, packed, *more)
-        part.expect(f"{command}, pcapng", 1, "", "editcap -F pcap", command, newer, *more)
+        part.expect(f"{command}, pcapng", 1, "a section header tells no byte order", "", command, newer, *more)
     part.expect("explain, parameters missing", 3, "", str(missing), "explain", capture, missing)
     part.expect("explain, certificate missing", 3, "", str(missing), "explain", capture, parameters, missing)
     part.expect("explain, swapped", 2, "", "swapped", "explain", parameters, capture)

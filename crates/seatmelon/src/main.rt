@@ -1,7 +1,8 @@
 //! Tells which RaSTA connections a capture seems to hold, `survey CAPTURE`, writes a parameter file for one of them,
 //! `draft CAPTURE N [--after RECORD [PARAMS]]`, or for all, `draft CAPTURE --all FOLDER`, lists its packets,
 //! `show CAPTURE PARAMS`, and tells in words what the verdict on it is, `explain CAPTURE PARAMS [CERT]`, or on many in one
-//! reading, `audit CAPTURE PARAMS..`.
+//! reading, `audit CAPTURE PARAMS..`. Captures are classic libpcap files or pcapng files, which `convert CAPTURE` writes as
+//! classic ones.
 #![tactic(auto)]
 
 #[cfg(test)]
@@ -12,7 +13,8 @@ use crate::version::write_version;
 use clap::Error;
 use clap::error::ErrorKind;
 use seatmelon_commands::{
-    Failure, draft_file, explain_files, is_told, show_file, status, survey_file, unwritten,
+    Failure, convert_file, draft_file, explain_files, is_told, show_file, status, survey_file,
+    unwritten,
 };
 use seatmelon_many::{audit_files, draft_all};
 use seatmelon_words::{Request, parse};
@@ -65,6 +67,7 @@ fn run<R: AllocGlobal + Clock + Clone + Drop + Env + Eprint + Files + Input + Pr
         Ok(Request::Audit(auditing)) => audit_files(rt, &auditing, is_timed),
         Ok(Request::Show(showing)) => show_file(rt, &showing),
         Ok(Request::Explain(explaining)) => explain_files(rt, &explaining, is_timed),
+        Ok(Request::Convert { capture }) => convert_file(rt, capture),
         Err(error) => tell(rt, &error),
     }
 }

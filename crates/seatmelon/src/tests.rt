@@ -3,9 +3,9 @@ ghost use Rattle.std.specs.Prelude.{None};
 
 use rasta_pcap::devices::{FailAt, Pieces};
 use seatmelon_commands::{
-    After, Answer, Draft, Drafting, Explaining, Inputs, STANDARD_OUTPUT, Showing, draft_in,
-    explain_of, is_told, params_in, status, status_of_outcome, status_of_survey, survey_of,
-    whole_of, with_params, write_answer,
+    After, Answer, Draft, Drafting, Explaining, FileKind, Inputs, Refusal, STANDARD_OUTPUT,
+    Showing, convert_of, draft_in, explain_of, is_told, params_in, status, status_of_format,
+    status_of_outcome, status_of_survey, survey_of, whole_of, with_params, write_answer,
 };
 use seatmelon_explain::{Extent, Form};
 use seatmelon_many::{Auditing, DraftingAll, audit_of};
@@ -103,6 +103,7 @@ fn request_text(alloc: Global, words: &[String]) -> Option<String> {
         Ok(Request::Audit(auditing)) => auditing_text(alloc, &auditing),
         Ok(Request::Show(showing)) => showing_text(alloc, &showing),
         Ok(Request::Explain(explaining)) => explaining_text(alloc, &explaining),
+        Ok(Request::Convert { capture }) => format!(in alloc; "convert {capture}").ok(),
         Err(error) => {
             let kind = error.kind();
             format!(in alloc; "{kind:?}").ok()
@@ -215,6 +216,10 @@ explain c p --json 1 2 | UnknownArgument
 explain c p --json=1 | TooManyValues
 explain c p --json --json | ArgumentConflict
 survey c --json | UnknownArgument
+convert c | convert c
+convert - | convert -
+convert | MissingRequiredArgument
+convert c d | UnknownArgument
 survey c --without 7 | UnknownArgument
 ";
 
@@ -234,7 +239,7 @@ struct Refused {
     text: &'static str,
 }
 
-const REFUSED: [Refused; 9] = [
+const REFUSED: [Refused; 8] = [
     Refused {
         file: b"",
         text: "1 c: the file ends inside its header (13 CutHeader)",
@@ -246,11 +251,6 @@ const REFUSED: [Refused; 9] = [
     Refused {
         file: b"\x1f\x8b\x08\0\0\0\0\0\0\x03 a body of twenty bytes",
         text: "1 c: this is not a classic libpcap file (10 NotPcap)\nthis is a gzip file: gunzip it first",
-    },
-    Refused {
-        file: b"\x0a\x0d\x0d\x0a\x1c\0\0\0\x4d\x3c\x2b\x1a\x01\0\0\0\xff\xff\xff\xff\xff\xff\xff\xff\x1c\0\0\0",
-        text: "1 c: this is not a classic libpcap file (10 NotPcap)\n\
-               this is a pcapng file: editcap -F pcap IN OUT makes a classic one",
     },
     Refused {
         file: b"client_id = 96\nserver_id = 97\n",
@@ -463,6 +463,106 @@ fn a_draft_of_a_capture_that_is_not_whole(rt: HostRuntime) {
     assert_eq!(rt; is_drafted_in_front(rt.alloc()), Some(true));
 }
 
+// Before the packet of the one request in a pcapng file: a section, an interface, and the front of the packet's block.
+const FRONT: &[u8] = b"\x0a\x0d\x0d\x0a\x1c\0\0\0\x4d\x3c\x2b\x1a\x01\0\0\0\
+    \xff\xff\xff\xff\xff\xff\xff\xff\x1c\0\0\0\
+    \x01\0\0\0\x14\0\0\0\x01\0\0\0\0\0\x04\0\x14\0\0\0\
+    \x06\0\0\0\x7c\0\0\0\0\0\0\0\0\0\0\0\0\0\0\0\x5c\0\0\0\x5c\0\0\0";
+
+// Behind it: the end of its block, and the front of a block that isn't there.
+const BEHIND: &[u8] = b"\x7c\0\0\0\x06\0\0\0\x7c\0\0\0";
+
+// The pcapng file, up to there.
+fn pcapng(alloc: Global, behind: &[u8]) -> Option<Vec<u8>> {
+    let mut file = Vec::from_slice(alloc, FRONT).ok()?;
+    file.extend_from_slice(&ONE_REQUEST[40..]).ok()?;
+    file.extend_from_slice(behind).ok()?;
+    Some(file)
+}
+
+// The same file, of another block the front.
+const CUT_PCAPNG: &str =
+    "# The capture is not whole: after 1 record, at byte 172: the file ends inside a block (14 CutRecord)\n\
+    # Only the records before that were read.\n\
+    # A draft of the parameters of the connection in the records 1 to 1 ";
+
+// What standard error is told of the fault of a capture.
+fn fault_text(alloc: Global, file: &[u8]) -> Option<String> {
+    let survey = survey_of(alloc, "c", file, None).ok()?;
+    let refusal = Refusal {
+        fault: survey.fault()?,
+        kind: FileKind::Capture,
+        header: None,
+        format: survey.format(),
+    };
+    format!(in alloc; "{refusal}").ok()
+}
+
+const CUT_FAULT: &str = "after 1 record, at byte 172: the file ends inside a block (14 CutRecord)";
+
+// Whether a pcapng file is drafted, whole and up to a block that isn't, and the fault is told.
+fn are_pcapng_drafted(alloc: Global) -> Option<bool> {
+    let is_whole = is_drafted(alloc, &pcapng(alloc, &BEHIND[..4])?, DRAFT)?;
+    let cut = pcapng(alloc, BEHIND)?;
+    let is_told = fault_text(alloc, &cut)?.as_str() == CUT_FAULT;
+    Some(is_whole && is_told && is_drafted(alloc, &cut, CUT_PCAPNG)?)
+}
+
+#[test]
+fn drafts_of_pcapng_files(rt: HostRuntime) {
+    assert_eq!(rt; are_pcapng_drafted(rt.alloc()), Some(true));
+}
+
+// What a file is converted to, or why it isn't, behind the program's status.
+fn conversion<D: Read + Drop>(alloc: Global, file: D) -> Option<Vec<u8>> {
+    let mut bytes = Vec::new(alloc);
+    if let Err(failure) = convert_of(alloc, "c", file, &mut bytes) {
+        bytes.clear();
+        write!(bytes, "{} {failure}", status(&failure)).ok()?;
+    }
+    Some(bytes)
+}
+
+// The header of the capture that a pcapng file is converted to.
+const CONVERTED: &[u8; 24] = b"\x4d\x3c\xb2\xa1\x02\0\x04\0\0\0\0\0\0\0\0\0\0\0\x04\0\x01\0\0\0";
+
+// Whether a pcapng file that ends inside its second packet's block is converted up to there, and to a capture that is cut.
+fn is_converted_in_front(alloc: Global) -> Option<bool> {
+    let file = pcapng(alloc, BEHIND)?;
+    let mut wanted = Vec::from_slice(alloc, CONVERTED).ok()?;
+    wanted.extend_from_slice(&ONE_REQUEST[24..]).ok()?;
+    wanted.push(0).ok()?;
+    let whole = conversion(alloc, file.as_slice())?;
+    let pieces = conversion(alloc, Pieces::new(&file, 7))?;
+    let format = convert_of(alloc, "c", file.as_slice(), Vec::new(alloc)).ok()?;
+    let is_cut = status_of_format(format) == 1;
+    Some(is_cut && whole.as_slice() == wanted.as_slice() && pieces.as_slice() == wanted.as_slice())
+}
+
+// Whether a file is converted to these bytes, or that is told.
+fn is_converted<D: Read + Drop>(alloc: Global, file: D, wanted: &[u8]) -> Option<bool> {
+    Some(conversion(alloc, file)?.as_slice() == wanted)
+}
+
+// Why the one request can't be written there, behind the program's status.
+fn unconverted_text(alloc: Global, device: FailAt<Vec<u8>>) -> Option<String> {
+    let failure = convert_of(alloc, "c", ONE_REQUEST.as_slice(), device).err()?;
+    format!(in alloc; "{} {failure}", status(&failure)).ok()
+}
+
+#[test]
+fn conversions(rt: HostRuntime) {
+    let alloc = rt.alloc();
+    assert_eq!(rt; is_converted_in_front(alloc), Some(true));
+    let file = Pieces::new(ONE_REQUEST, 9);
+    assert_eq!(rt; is_converted(alloc, file, ONE_REQUEST), Some(true));
+    let broken = Broken { number: 5 };
+    let text = b"3 c: Input/output error";
+    assert_eq!(rt; is_converted(alloc, broken, text), Some(true));
+    let text = unconverted_text(alloc, FailAt::new(Vec::new(alloc), 1));
+    assert_eq!(rt; text.as_deref(), Some("3 standard output: other error"));
+}
+
 #[test]
 fn drafts_by_number(rt: HostRuntime) {
     let alloc = rt.alloc();
@@ -581,6 +681,7 @@ fn unkept_text(alloc: Global, parameters: &[u8]) -> Option<String> {
     let draft = Draft {
         connection: survey.connections().first()?,
         fault: None,
+        format: survey.format(),
         kept: None,
     };
     match with_params(alloc, "p", 1, draft, &params) {

@@ -1,5 +1,5 @@
 -- What an account tells of what was read.
-use Rattle.std.specs.Prelude.{◌≡◌, ℕ, List, [], ◌∷◌, length, take, Option, None, Some, option_map}
+use Rattle.std.specs.Prelude.{◌≡◌, ℕ, List, [], ◌∷◌, length, take, filter, Option, None, Some, option_map}
 use Rattle.sha2.specs.Sha256.{sha256}
 use Rattle.rasta_pcap.specs.declared.fault.Side.TheVariants.{Client, Server}
 use Rattle.rasta_pdu.specs.Params.{Parameters}
@@ -10,7 +10,7 @@ use Rattle.seatmelon_reading.specs.declared.capture_refusal.CaptureRefusal.{Capt
 use Rattle.seatmelon_reading.specs.declared.notes.Sighting.{Sighting}
 use Rattle.seatmelon_reading.specs.declared.reading.Reading.{Reading}
 use Rattle.seatmelon_reading.specs.declared.silence.Silence.{Silence}
-use Rattle.seatmelon_reading.specs.Silences.{IsLongestSilence}
+use Rattle.seatmelon_reading.specs.Silences.{IsLongestSilence, is_untimed}
 use Rattle.seatmelon_account.specs.Messages.{IsDirection}
 use Rattle.seatmelon_account.specs.Offers.{AreOffers}
 use Rattle.seatmelon_account.specs.Refusals.{TellsPlace, TellsRecord}
@@ -50,6 +50,7 @@ pub record IsAccount (i : Inputs) (r : Reading) (a : Account) : Type 0 where
   pub parameters : a.parameters.sum ≡ sha256 i.texts.parameters.now
   pub certificate : option_map sum_of a.certificate ≡ option_map sha256 (text_in i)
   pub header : a.header ≡ r.header
+  pub format : a.format ≡ r.format
   pub params : a.params.now ≡ i.params.now
   pub without : a.without.now ≡ i.without.now
   pub records : a.records ≡ r.notes.records
@@ -59,6 +60,7 @@ pub record IsAccount (i : Inputs) (r : Reading) (a : Account) : Type 0 where
   pub behind : a.behind ≡ r.notes.behind
   pub passed : a.passed ≡ r.notes.passed
   pub times : a.times ≡ r.notes.times
+  pub untimed : a.untimed ≡ length (filter is_untimed r.notes.packets.items)
   pub silences : AreSilences r.notes.packets.items a.silences
   pub offers : AreOffers i.params.now.n_sendmax r.store a.offers
   pub verdict : IsToldOf i.params.now r.store r.refusal (text_in i) a.verdict

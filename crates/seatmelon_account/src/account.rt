@@ -19,9 +19,10 @@ use rasta_pcap::{Fault, Side};
 use rasta_pdu::Params;
 use rasta_verdict::judge_by;
 use seatmelon_capture::FileHeader;
+use seatmelon_pcapng::Format;
 use seatmelon_reading::{
-    ChannelCount, PassedOver, Reading, Sighting, Silence, TimeNotes, Window, longest_silence,
-    window_in,
+    ChannelCount, PassedOver, Reading, Sighting, Silence, TimeNotes, Window, count_untimed,
+    longest_silence, window_in,
 };
 use sha2::{Digest, Sha256};
 use std::alloc::Global;
@@ -82,6 +83,9 @@ pub struct Account<'a> {
     /// The header of the capture; none where its file is shorter, or begins with no magic number.
     pub header: Option<FileHeader>,
 
+    /// In which format the capture was read, and why it is refused, if it is a pcapng file that is.
+    pub format: Format,
+
     /// By what is judged.
     pub params: &'a Params,
 
@@ -109,6 +113,9 @@ pub struct Account<'a> {
 
     /// What is noted of the times of capture. None of it is part of the verdict.
     pub times: TimeNotes,
+
+    /// How many packets of the connection have no time of capture, as a pcapng file may have them.
+    pub untimed: u64,
 
     /// The longest silence of the client and of the server in the window; none of an end that sent fewer than two packets.
     pub silences: [Option<Silence>; 2],
@@ -261,6 +268,7 @@ pub fn account_of<'a>(
         parameters: file_of(names.parameters, texts.parameters),
         certificate: texts.certificate.map(|text| file_of(name, text)),
         header: reading.header,
+        format: reading.format,
         params: inputs.params,
         without: inputs.without,
         records: notes.records,
@@ -271,6 +279,7 @@ pub fn account_of<'a>(
         behind: notes.behind,
         passed: notes.passed,
         times: notes.times,
+        untimed: count_untimed(notes.packets.as_slice()),
         silences: silences_in(notes.packets.as_slice()),
         offers: offers_in(inputs.params, &reading.store),
         verdict: verdict_on(alloc, inputs, reading)?,

@@ -78,6 +78,22 @@ module _ (place : ℕ) (first old new : List Line) (r : Numbered) (time : Option
       (λ (other : i ≡ place → ⊥). before i d inside (ap (λ (l : Line). l.taken) (sym (elsewhere place old new step i d other)) ∙ taken))
       (same_or_other i place)
 
+  held_by : (y : Bool) → x ≡ y → (held : Bool) → TellsHeld held first old r → TellsHeld (held || y) first new r
+  held_by y e true before = before
+  held_by true e false before = held_now e
+  held_by false e false before = held_still false e before
+
+  pub held_or : (held : Bool) → TellsHeld held first old r → TellsHeld (held || x) first new r
+  held_or held before = held_by x refl held before
+
+pub or_true : (a b : Bool) → b ≡ true → (a || b) ≡ true
+or_true true b e = refl
+or_true false b e = e
+
+pub or_false : (a b : Bool) → b ≡ false → (a || b) ≡ a
+or_false true b e = refl
+or_false false b e = e
+
 -- ---- all connections
 
 foreign_held : (p : Parameters) (r : Numbered) → packet_in p.channels r.1 ≡ Ok None → is_held p r ≡ false

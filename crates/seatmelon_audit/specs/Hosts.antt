@@ -1,5 +1,5 @@
 -- Between which hosts a frame goes.
-use Rattle.std.specs.Prelude.{ℕ, ◌+◌, ◌*◌, ◌^◌, List, nat_lt, if◌then◌else◌, Option, None, Some}
+use Rattle.std.specs.Prelude.{ℕ, ◌+◌, ◌*◌, ◌^◌, ◌%◌, ◌/◌, List, nat_lt, if◌then◌else◌, Option, None, Some}
 use Rattle.rasta_udp.specs.declared.channel.Endpoint.{Endpoint}
 use Rattle.rasta_udp.specs.Frame.{Fields, address_of, fields_of, is_tagged, without_tag}
 
@@ -17,3 +17,7 @@ read_from frame = if is_tagged frame then without_tag frame else frame
 
 abbrev pub hosts_of : List ℕ → Option ℕ
 hosts_of frame = hosts_in (fields_of (read_from frame))
+
+-- in which of so many buckets the ways between these hosts are
+unfoldable pub bucket_of : ℕ → ℕ → ℕ
+bucket_of hosts buckets = (hosts * 11400714819323198485 % 2 ^ 64 / 2 ^ 32) * buckets / 2 ^ 32

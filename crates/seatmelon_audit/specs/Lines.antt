@@ -1,7 +1,8 @@
 -- A connection on its way through the records of a capture.
-use Rattle.std.specs.Prelude.{◌≡◌, ⊤, ◌⊎◌, ◌<◌, ◌≤◌, ℕ, suc, Bool, true, false, List, [], ◌∷◌, ◌++◌, length, map, slice_get, slice_index_or, slice_set, Option, Some}
+use Rattle.std.specs.Prelude.{◌≡◌, ⊤, ◌⊎◌, ◌<◌, ◌≤◌, ℕ, suc, Bool, true, false, List, [], ◌∷◌, ◌++◌, ◌||◌, length, map, slice_get, slice_index_or, slice_set, Option, Some}
 use Rattle.std.specs.List.{Contains}
 use Rattle.rasta_pdu.specs.Params.{Parameters}
+use Rattle.seatmelon_audit.specs.Ways.{ways_between}
 use Rattle.seatmelon_audit.specs.declared.ways.Way.{Way}
 use Rattle.rasta_pcap.specs.declared.time.CaptureTime.{CaptureTime}
 use Rattle.rasta_pcap.specs.Capture.{Numbered}
@@ -95,3 +96,11 @@ TellsAny held lines r = (records : List Captured) → r.0 ≡ suc (length record
 -- the connections of these ways have taken in the record of this number
 abbrev pub HaveTaken : List Way → ℕ → List Line → Type 0
 HaveTaken ways number lines = (w : Way) (d : Line) → Contains ways w → w.line < length lines → (slice_index_or lines w.line d).taken ≡ number
+
+-- where the connections of some ways between these hosts have, that of one way more has too, if it is between them
+abbrev pub TakesToo : ℕ → Way → ℕ → List Line → List Line → Type 0
+TakesToo hosts way number old new = (ways : List Way) → HaveTaken (ways_between hosts ways) number old → HaveTaken (ways_between hosts (ways ++ way ∷ [])) number new
+
+-- what was told of the connections before is told of those after it, with this answer
+abbrev pub TellsToo : Bool → List Line → List Line → Numbered → Type 0
+TellsToo answer old new r = (first : List Line) (held : Bool) → params_of old ≡ params_of first → TellsHeld held first old r → TellsHeld (held || answer) first new r

@@ -1,18 +1,36 @@
 -- Which connections record which hosts.
-use Rattle.std.specs.Prelude.{◌≡◌, ◌⊎◌, ℕ, List, None, Some, Ok, slice_get}
-use Rattle.std.specs.List.{Contains}
-use Rattle.std.specs.List.Sorted.{IsNonDecreasingBy}
+use Rattle.std.specs.Prelude.{◌≡◌, ◌<◌, ◌≤◌, ◌⊎◌, ℕ, List, length, nat_eq, nat_lt, true, false, None, Some, Ok, slice_get, slice_index_or}
+use Rattle.std.specs.List.{Contains, filter}
+use Rattle.std.specs.List.Sorted.{IsNonDecreasingBy, IsPartitionPoint}
 use Rattle.rasta_udp.specs.declared.channel.Channel.{Channel}
 use Rattle.rasta_udp.specs.Frame.{packet_in}
 use Rattle.rasta_pdu.specs.Params.{Parameters}
-use Rattle.seatmelon_audit.specs.Hosts.{hosts_between}
+use Rattle.seatmelon_audit.specs.Hosts.{bucket_of, hosts_between}
 use Rattle.seatmelon_audit.specs.declared.ways.Way.{Way}
 
 abbrev pub way_of : ℕ → ℕ → Way
 way_of hosts line = record { hosts = hosts; line = line }
 
-abbrev pub AreSorted : List Way → Type 0
-AreSorted ways = IsNonDecreasingBy (λ (w : Way). w.hosts) ways
+-- those of these between these hosts
+abbrev pub ways_between : ℕ → List Way → List Way
+ways_between hosts ways = filter (λ (w : Way). nat_eq w.hosts hosts) ways
+
+-- by their buckets, of which there are so many
+abbrev pub AreSorted : ℕ → List Way → Type 0
+AreSorted buckets ways = IsNonDecreasingBy (λ (w : Way). bucket_of w.hosts buckets) ways
+
+-- the ways of the buckets before this one stand before this place, the others don't
+abbrev pub BeginAt : ℕ → ℕ → List Way → ℕ → Type 0
+BeginAt buckets bucket ways place =
+    IsPartitionPoint (λ (w : Way). nat_lt (bucket_of w.hosts buckets) bucket ≡ true) (λ (w : Way). nat_lt (bucket_of w.hosts buckets) bucket ≡ false) ways place
+
+-- each of these is where a bucket begins
+abbrev pub AreStarts : ℕ → List Way → List ℕ → Type 0
+AreStarts buckets ways starts = (bucket : ℕ) (d : ℕ) → bucket < length starts → BeginAt buckets bucket ways (slice_index_or starts bucket d)
+
+-- and each is a place among the ways, or their end
+abbrev pub AreWithin : List Way → List ℕ → Type 0
+AreWithin ways starts = (bucket : ℕ) (d : ℕ) → bucket < length starts → slice_index_or starts bucket d ≤ length ways
 
 -- both ways over each of these channels are known, as this connection's
 abbrev pub KnowsChannels : List Way → ℕ → List Channel → Type 0

@@ -1,6 +1,7 @@
 //! All connections, on their way through the records of a capture.
 ghost use Rattle.std.specs.Prelude.{◌≡◌, ◌<◌, ◌^◌, [], length, IfOk};
-ghost use Rattle.seatmelon_audit.specs.Lines.{AllBetween, AllTakeIn, AreLines, HaveTaken, HeldAt, IsStepAt, TellsAny, TellsHeld, params_of};
+ghost use Rattle.seatmelon_audit.specs.Lines.{AllBetween, AllTakeIn, AreLines, HaveTaken, HeldAt, IsStepAt, TakesToo, TellsAny, TellsHeld, TellsToo, params_of};
+ghost use Rattle.seatmelon_audit.specs.Ways.{ways_between};
 ghost use Rattle.seatmelon_audit.specs.Ends.{AllEnd, IsEndAt};
 ghost use Rattle.seatmelon_audit.specs.All.{IsKnown, lines_in};
 
@@ -34,21 +35,43 @@ fn step_at(
     }
 }
 
-// The connections of these ways take in a record, and answer whether it holds a packet of one of them.
+// The connection of this way takes in a record between these hosts if it records them, and answers whether the record
+// holds a packet of it.
+fn step_on(
+    lines: &mut Vec<Line>,
+    hosts: u64,
+    way: &Way,
+    record: &Record<'_>,
+    time: Option<CaptureTime>,
+) -> bool
+    ensures between { AllBetween lines.old.items lines.new.items («record».now.number, «record».now.bytes.now) time }
+    ensures taken { TakesToo hosts way.now «record».now.number lines.old.items lines.new.items }
+    ensures kept { params_of lines.new.items ≡ params_of lines.old.items }
+    ensures held { TellsToo result lines.old.items lines.new.items («record».now.number, «record».now.bytes.now) }
+{
+    if way.hosts == hosts {
+        step_at(lines, way.line as usize, record, time)
+    } else {
+        false
+    }
+}
+
+// The connections of these ways between these hosts take in a record, and answer whether it holds a packet of one of them.
 fn step_all(
     lines: &mut Vec<Line>,
+    hosts: u64,
     ways: &[Way],
     record: &Record<'_>,
     time: Option<CaptureTime>,
 ) -> bool
     ensures between { AllBetween lines.old.items lines.new.items («record».now.number, «record».now.bytes.now) time }
-    ensures taken { HaveTaken ways.now «record».now.number lines.new.items }
+    ensures taken { HaveTaken (ways_between hosts ways.now) «record».now.number lines.new.items }
     ensures kept { params_of lines.new.items ≡ params_of lines.old.items }
     ensures held { TellsHeld result lines.old.items lines.new.items («record».now.number, «record».now.bytes.now) }
 {
     let mut held = false;
     for way in ways {
-        if step_at(lines, way.line as usize, record, time) {
+        if step_on(lines, hosts, way, record, time) {
             held = true;
         }
     }
@@ -107,8 +130,8 @@ impl Lines {
         ensures known { IsKnown self.old → IsKnown self.new }
         ensures held { IsKnown self.old → TellsAny result (lines_in self.old) («record».now.number, «record».now.bytes.now) }
     {
-        let ways = self.ways.of_frame(record.bytes);
-        step_all(&mut self.lines, ways, record, time)
+        let (hosts, ways) = self.ways.of_frame(record.bytes);
+        step_all(&mut self.lines, hosts, ways, record, time)
     }
 
     /// The connections, in their order.

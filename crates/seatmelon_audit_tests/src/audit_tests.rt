@@ -3,6 +3,7 @@ use crate::cases::{Case, GREAT_JSON, GREAT_TEXT, Given, MARK, audits, case_in, i
 use rasta_pcap::devices::{FailAt, Pieces, WriteDevice};
 use rasta_pcap::{Counted, Fault, Sink, Source};
 use seatmelon_audit::{Answer, Audit, Conveyed, Explained, audit};
+use seatmelon_pcapng::{Format, Reason, Refusal};
 use seatmelon_tally::{status_of, write_audit, write_audit_json};
 use std::alloc::Global;
 use std::process::Abort;
@@ -16,23 +17,24 @@ enum Form {
 
 const FORMS: [Form; 2] = [Form::Text, Form::Json];
 
-// Writes an audit in a form.
+// Writes an audit of a file in this format in a form.
 fn write_in<W: Sink>(
     form: Form,
     writer: &mut W,
     names: &[String],
     audit: &Audit,
+    format: Format,
 ) -> Result<(), Fault> {
     match form {
-        Form::Text => write_audit(writer, names, audit),
-        Form::Json => write_audit_json(writer, names, audit),
+        Form::Text => write_audit(writer, names, audit, format),
+        Form::Json => write_audit_json(writer, names, audit, format),
     }
 }
 
 // What is written on an audit in a form.
 fn text_on(alloc: Global, form: Form, names: &[String], audit: &Audit) -> Option<Vec<u8>> {
     let mut writer = Counted::new(Vec::new(alloc));
-    write_in(form, &mut writer, names, audit).ok()?;
+    write_in(form, &mut writer, names, audit, Format::Classic).ok()?;
     Some(writer.into_inner())
 }
 
@@ -139,6 +141,45 @@ fn great_counts_and_no_memory(rt: HostRuntime) {
     assert_eq!(rt; is_great_told(rt.alloc()), Some(true));
 }
 
+// What is written in a form on an audit of no connections, whose pcapng file is refused at a block behind its first record.
+fn text_on_refused(alloc: Global, form: Form) -> Option<Vec<u8>> {
+    let audit = Audit {
+        answers: Vec::new(alloc),
+        records: 1,
+        others: 1,
+        fault: Some(Fault::at(Fault::CUT_RECORD, 2)),
+    };
+    let format = Format::Pcapng(Some(Refusal {
+        reason: Reason::Trailer,
+        at: 60,
+    }));
+    let mut writer = Counted::new(Vec::new(alloc));
+    write_in(form, &mut writer, &[], &audit, format).ok()?;
+    Some(writer.into_inner())
+}
+
+const REFUSED_TEXT: &str =
+    "after 1 record, at byte 60: the two lengths of a block differ (14 CutRecord)\n\
+    0 connections; 0 packets; 1 record of none of them\n";
+
+const REFUSED_JSON: &str = "{\"connections\":[],\"records\":1,\"packets\":0,\"others\":1,\
+    \"fault\":{\"number\":14,\"name\":\"CutRecord\",\"record\":2,\
+    \"block\":{\"offset\":60,\"reason\":\"the two lengths of a block differ\"}}}\n";
+
+// Whether the refusal of a file is told so in a form.
+fn is_refusal_told(alloc: Global, form: Form, text: &str) -> Option<bool> {
+    Some(text_on_refused(alloc, form)?.as_slice() == text.as_bytes())
+}
+
+#[test]
+fn refused_pcapng_files(rt: HostRuntime) {
+    let alloc = rt.alloc();
+    let is_told = is_refusal_told(alloc, Form::Text, REFUSED_TEXT);
+    assert_eq!(rt; is_told, Some(true));
+    let is_told = is_refusal_told(alloc, Form::Json, REFUSED_JSON);
+    assert_eq!(rt; is_told, Some(true));
+}
+
 // Whether the text of a case is the same where this read fails, or the failure is answered and nothing else.
 fn is_right_at_read(alloc: Global, case: &Case<'_>, given: &Given, call: u64) -> Option<bool> {
     let mut reader = Counted::new(FailAt::new(Pieces::new(&given.file, 9), call));
@@ -181,7 +222,7 @@ fn is_right_by(
     device: FailAt<Vec<u8>>,
 ) -> bool {
     let mut writer = Counted::new(device);
-    let outcome = write_in(form, &mut writer, names, audit);
+    let outcome = write_in(form, &mut writer, names, audit, Format::Classic);
     let has_failed = Sink::failures(&writer) > 0;
     let text = writer.into_inner().into_inner();
     if has_failed {

@@ -9,12 +9,12 @@ use Rattle.seatmelon_commands.specs.declared.answer.Answer.{Answer}
 use Rattle.seatmelon_commands.specs.declared.answer.Answer.TheVariants.{Survey, Draft}
 use Rattle.seatmelon_commands.specs.declared.answer.Draft as drafts
 
--- the draft is that of the connection of this number, from 1, and names the fault of the capture; the survey stands where
--- there is none at all
+-- the draft is that of the connection of this number, from 1, and names the fault of the capture by the format of its file;
+-- the survey stands where there is none at all
 abbrev pub IsAnswer : Findings → ℕ → Answer → Type 0
 IsAnswer survey number (Survey s) = (s.now ≡ survey) × (length survey.connections ≡ 0)
 IsAnswer survey number (Draft d) =
-    (1 ≤ number) × (slice_get survey.connections (number - 1) ≡ Some d.connection.now) × (d.fault ≡ survey.fault)
+    (1 ≤ number) × (slice_get survey.connections (number - 1) ≡ Some d.connection.now) × (d.fault ≡ survey.fault) × (d.format ≡ survey.format)
 
 -- parameters have the ids of a connection's ends
 abbrev pub has_ids_of : Parameters → Connection → Bool
@@ -25,6 +25,7 @@ has_ids_of p c = ((p.client_id == first_id_in c) && (p.server_id == second_id_in
 pub record KeepsParams (old : drafts.Draft) (p : Parameters) (new : drafts.Draft) : Type 0 where
   pub connection : new.connection ≡ old.connection
   pub fault : new.fault ≡ old.fault
+  pub format : new.format ≡ old.format
   pub kept : option_copied new.kept ≡ Some p
   pub ids : has_ids_of p new.connection.now ≡ true
 

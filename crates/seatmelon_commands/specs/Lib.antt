@@ -1,7 +1,9 @@
+pub mod Converted
 pub mod Drafts
 pub mod Explained
 pub mod Failing
 pub mod FileKinds
+pub mod Formats
 pub mod Headers
 pub mod Shown
 pub mod Watching

@@ -7,16 +7,18 @@ use crate::output::{finish, output_to};
 use rasta_pcap::{Fault, Sink};
 use rasta_pdu::Params;
 use seatmelon_lines::write_words;
+use seatmelon_pcapng::Format;
 use seatmelon_survey::{Connection, Survey, write_fault};
 use std::alloc::Global;
 use std::io::Write;
 
-/// A parameter file for a connection of a capture, whose fault it names, if there is one. If parameters are kept, only
-/// the window and the quiet point are new.
+/// A parameter file for a connection of a capture, whose fault it names by the format of its file, if there is one. If
+/// parameters are kept, only the window and the quiet point are new.
 #[derive(Clone, Copy)]
 pub struct Draft<'a> {
     pub connection: &'a Connection,
     pub fault: Option<Fault>,
+    pub format: Format,
     pub kept: Option<&'a Params>,
 }
 
@@ -30,17 +32,17 @@ pub enum Answer<'a> {
     Draft(Draft<'a>),
 }
 
-// Writes that a capture isn't whole, as a comment.
-fn write_fault_comment<W: Sink>(writer: &mut W, fault: Fault) -> Result<(), Fault> {
+// Writes that the capture of a file in this format isn't whole, as a comment.
+fn write_fault_comment<W: Sink>(writer: &mut W, fault: Fault, format: Format) -> Result<(), Fault> {
     write_words(writer, "# The capture is not whole: ")?;
-    write_fault(writer, fault)?;
+    write_fault(writer, fault, format)?;
     write_words(writer, "# Only the records before that were read.\n")
 }
 
 impl Draft<'_> {
     fn write<W: Sink>(&self, writer: &mut W) -> Result<(), Fault> {
         if let Some(fault) = self.fault {
-            write_fault_comment(writer, fault)?;
+            write_fault_comment(writer, fault, self.format)?;
         }
         match self.kept {
             Some(params) => self.connection.write_kept_draft(writer, params),

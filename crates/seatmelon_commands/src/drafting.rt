@@ -96,6 +96,7 @@ pub fn draft_in<'a>(
         Ok(Answer::Draft(Draft {
             connection: &connections[(number - 1) as usize],
             fault: survey.fault(),
+            format: survey.format(),
             kept: None,
         }))
     }
@@ -174,11 +175,11 @@ pub fn tell_fault<R: Eprint>(rt: &R, path: &str, survey: &Survey) {
     let Some(fault) = survey.fault() else {
         return;
     };
-    let kind = FileKind::Capture;
     let refusal = Refusal {
         fault,
-        kind,
+        kind: FileKind::Capture,
         header: None,
+        format: survey.format(),
     };
     // Where standard error fails too, the draft has told it.
     let _ = eprintln!(rt; "seatmelon: {path}: {refusal}\nonly the records before that were read");

@@ -7,7 +7,7 @@ ghost use Rattle.seatmelon_commands.specs.Failing.{status_of, IsOfExplaining, Te
 
 use crate::failure::Failure;
 use crate::file_kind::{FileKind, kind_of_start};
-use crate::output::unwritten;
+use crate::output::failed;
 use crate::parameters::params_in;
 use crate::progress::{Progress, len_at};
 use crate::reading::{BUFFER, STANDARD_INPUT, unread, whole_file};
@@ -78,23 +78,6 @@ fn flushed<W: Write>(outcome: Result<Outcome, Fault>, writer: &mut W) -> Result<
     }
 }
 
-// Why a capture isn't explained, by the fault, and the errors of its readers and of the writer.
-fn unexplained(
-    alloc: Global,
-    path: &str,
-    fault: Fault,
-    reading: Option<io::Error>,
-    writing: Option<io::Error>,
-) -> Failure
-    ensures { status_of result ≡ 3 }
-{
-    match fault.number {
-        Fault::READ_FAILED => unread(alloc, path, reading),
-        Fault::WRITE_FAILED => unwritten(alloc, writing),
-        _ => Failure::OutOfMemory,
-    }
-}
-
 /// Explains the capture that a reader gives, and writes that to a device, all of it.
 pub fn explain_of<D: Read + Drop, W: Write + Drop>(
     alloc: Global,
@@ -124,7 +107,7 @@ pub fn explain_of<D: Read + Drop, W: Write + Drop>(
             outcome,
             kind: kind_of_start(source.start()),
         }),
-        Err(fault) => Err(unexplained(alloc, path, fault, source.error(), device.error())),
+        Err(fault) => Err(failed(alloc, path, fault, source.error(), device.error())),
     }
 }
 
@@ -195,8 +178,7 @@ pub fn advise<R: Eprint>(rt: &R, path: &str, kind: FileKind) {
     let advice = match kind {
         FileKind::Text => "this looks like a text file: are CAPTURE and PARAMS swapped?",
         FileKind::Gzip => "this is a gzip file: gunzip it first",
-        FileKind::Pcapng => "this is a pcapng file: editcap -F pcap IN OUT makes a classic one",
-        FileKind::Capture | FileKind::Other => return,
+        FileKind::Capture | FileKind::Pcapng | FileKind::Other => return,
     };
     // Where standard error fails too, the text has told what is wrong.
     let _ = eprintln!(rt; "seatmelon: {path}: {advice}");

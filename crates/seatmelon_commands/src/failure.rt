@@ -6,7 +6,8 @@ use crate::file_kind::FileKind;
 use crate::parameters::ParameterRefusal;
 use rasta_pcap::Fault;
 use seatmelon_capture::{FileHeader, link_type_name};
-use seatmelon_survey::{FaultWords, words_of_fault};
+use seatmelon_pcapng::Format;
+use seatmelon_survey::{FaultWords, FileRefusal, words_of_fault};
 use std::alloc::{AllocError, Global};
 use std::{fmt, io};
 use thiserror::Error;
@@ -68,12 +69,13 @@ pub enum Failure {
     },
 }
 
-/// Why a capture is refused, what kind of file it seems to be, and its header, if it has one.
+/// Why a capture is refused, what kind of file it seems to be, its header, if it has one, and the format of its file.
 #[derive(Clone, Copy, Debug)]
 pub struct Refusal {
     pub fault: Fault,
     pub kind: FileKind,
     pub header: Option<FileHeader>,
+    pub format: Format,
 }
 
 impl From<AllocError> for Failure {
@@ -93,11 +95,10 @@ fn advice_on(kind: FileKind, has_other_frames: bool) -> &'static str {
             "\ncapture on an Ethernet interface, not on 'any': frames without Ethernet headers can't be converted"
         }
         FileKind::Gzip => "\nthis is a gzip file: gunzip it first",
-        FileKind::Pcapng => "\nthis is a pcapng file: editcap -F pcap IN OUT makes a classic one",
         FileKind::Text => {
             "\nthis looks like a text file; CAPTURE is the file that holds the packets"
         }
-        FileKind::Capture | FileKind::Other => "",
+        FileKind::Capture | FileKind::Pcapng | FileKind::Other => "",
     }
 }
 
@@ -128,17 +129,37 @@ fn write_link_type<W: fmt::Write>(
     }
 }
 
+// Writes why a pcapng file is refused, behind how many records and where.
+fn write_file_refusal<W: fmt::Write>(
+    f: &mut fmt::Formatter<W>,
+    refused: &FileRefusal,
+) -> fmt::Result {
+    let (records, name) = (refused.records, refused.records_name());
+    let refusal = refused.refusal;
+    let words = refusal.reason.words();
+    write!(f, "after {records}{name}, at byte {}: {words}", refusal.at)
+}
+
+// Writes what a fault says of the capture itself, with the number of the record, if it names one.
+fn write_fault<W: fmt::Write>(f: &mut fmt::Formatter<W>, fault: Fault) -> fmt::Result {
+    let FaultWords { before, behind } = words_of_fault(fault.number);
+    f.write_str(before)?;
+    if fault.place > 0 {
+        write!(f, "{}{behind}", fault.place)?;
+    }
+    Ok(())
+}
+
 impl fmt::Display for Refusal {
     fn fmt<W: fmt::Write>(&self, f: &mut fmt::Formatter<W>) -> fmt::Result {
-        let Refusal { fault, kind, .. } = self;
-        let FaultWords { before, behind } = words_of_fault(fault.number);
-        f.write_str(before)?;
-        if fault.place > 0 {
-            write!(f, "{}{behind}", fault.place)?;
+        let fault = self.fault;
+        match FileRefusal::told_by(fault, self.format) {
+            Some(refused) => write_file_refusal(f, &refused)?,
+            None => write_fault(f, fault)?,
         }
         let link_type = refused_link_type(self);
         write_link_type(f, link_type)?;
-        let advice = advice_on(*kind, link_type.is_some());
+        let advice = advice_on(self.kind, link_type.is_some());
         write!(f, " ({} {}){advice}", fault.number, fault.name())
     }
 }

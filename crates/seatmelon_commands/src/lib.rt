@@ -1,8 +1,9 @@
-//! The commands of the program `seatmelon`, over any files and devices: surveys, drafts and explanations, and what is
-//! said where one of them fails.
+//! The commands of the program `seatmelon`, over any files and devices: surveys, drafts, explanations and conversions, and
+//! what is said where one of them fails.
 #![tactic(auto)]
 
 mod answer;
+mod converting;
 mod drafting;
 mod explaining;
 mod failure;
@@ -18,6 +19,7 @@ mod unknown_key;
 mod watched;
 
 pub use answer::{Answer, Draft, write_answer};
+pub use converting::{convert, convert_file, convert_of, status_of_format};
 pub use drafting::{After, Drafting, draft_file, draft_in, tell_fault, with_params};
 pub use explaining::{
     Explaining, Explanation, Inputs, advise, explain_files, explain_of, status_of_outcome,

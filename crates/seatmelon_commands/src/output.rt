@@ -3,6 +3,7 @@ ghost use Rattle.std.specs.Prelude.{◌≡◌, IfErr};
 ghost use Rattle.seatmelon_commands.specs.Failing.{status_of};
 
 use crate::failure::{Failure, reason_of};
+use crate::reading::unread;
 use crate::watched::Watched;
 use rasta_pcap::{Counted, Fault};
 use std::alloc::Global;
@@ -58,6 +59,24 @@ pub fn unwritten(alloc: Global, error: Option<io::Error>) -> Failure
     ensures { status_of result ≡ 3 }
 {
     unwritten_at(alloc, STANDARD_OUTPUT, error)
+}
+
+/// Why something failed that reads the file of that path and writes to standard output, by the fault, and the errors of the
+/// reader and of the writer.
+pub fn failed(
+    alloc: Global,
+    path: &str,
+    fault: Fault,
+    reading: Option<io::Error>,
+    writing: Option<io::Error>,
+) -> Failure
+    ensures { status_of result ≡ 3 }
+{
+    match fault.number {
+        Fault::READ_FAILED => unread(alloc, path, reading),
+        Fault::WRITE_FAILED => unwritten(alloc, writing),
+        _ => Failure::OutOfMemory,
+    }
 }
 
 /// Ends what was written to the device of that name, which is all out then.

@@ -1,5 +1,6 @@
 //! The command `show`.
 ghost use Rattle.std.specs.Prelude.{◌≡◌, ◌<◌, ◌≤◌, IfErr, IfOk, IsSome, None, Ok, option_map};
+ghost use Rattle.seatmelon_pcapng.specs.Formats.{capture_of};
 ghost use Rattle.seatmelon_show.specs.Counted.{IsListingOf};
 ghost use Rattle.seatmelon_commands.specs.Failing.{IsOfFiles};
 ghost use Rattle.seatmelon_commands.specs.Shown.{IsChoiceOf, kinds_of};
@@ -13,6 +14,7 @@ use crate::watched::Watched;
 use rasta_pcap::{Counted, Fault};
 use rasta_pdu::{Kind, Params};
 use seatmelon_capture::{FileHeader, Keeping};
+use seatmelon_pcapng::Format;
 use seatmelon_show::{Choice, Listing, Types, list};
 use std::alloc::Global;
 use std::fs::File;
@@ -90,6 +92,7 @@ fn unlisted<D, W>(
                         fault,
                         kind,
                         header,
+                        format: Format::Classic,
                     },
                 },
                 Err(_) => Failure::OutOfMemory,
@@ -108,7 +111,7 @@ pub fn show_of<D: Read + Drop, W: Write + Drop>(
     file: D,
     device: W,
 ) -> Result<Listing, Failure>
-    ensures listed { IfOk result (IsListingOf params.now choice.now (D.remaining file)) }
+    ensures listed { IfOk result (IsListingOf params.now choice.now (option_map capture_of (D.remaining file))) }
     ensures err { IfErr result IsOfFiles }
 {
     let Ok(buffered) = BufWriter::with_capacity(alloc, BUFFER, Watched::new(device)) else {

@@ -1,7 +1,8 @@
 //! The command `survey`.
-ghost use Rattle.std.specs.Prelude.{◌≡◌, ◌<◌, ◌≤◌, length, None, IfErr, IfOk, IfSome, IsSome};
-ghost use Rattle.seatmelon_survey.specs.Survey.{connections_in, fault_in, header_of};
+ghost use Rattle.std.specs.Prelude.{◌≡◌, ◌<◌, ◌≤◌, [], length, None, IfErr, IfOk, IfSome, IsSome};
+ghost use Rattle.seatmelon_survey.specs.Survey.{connections_in, fault_in, format_of_survey, header_of};
 ghost use Rattle.seatmelon_commands.specs.Failing.{status_of, TellsOf, IsOfFiles};
+ghost use Rattle.seatmelon_commands.specs.Formats.{FormatFits};
 ghost use Rattle.seatmelon_commands.specs.Headers.{IsHeaderOf, TellsHeader, TellsHeaderOf};
 
 use crate::answer::{Answer, write_answer};
@@ -10,8 +11,9 @@ use crate::file_kind::kind_of_start;
 use crate::output::STANDARD_OUTPUT;
 use crate::reading::{BUFFER, STANDARD_INPUT, unread};
 use crate::watched::Watched;
-use rasta_pcap::{Buffered, Counted, Fault};
+use rasta_pcap::{Buffered, Counted, Fault, Source};
 use seatmelon_capture::{FileHeader, Keeping};
+use seatmelon_pcapng::{Capture, Format};
 use seatmelon_survey::{Behind, Survey, survey};
 use std::alloc::Global;
 use std::fs::File;
@@ -42,6 +44,7 @@ fn refused<D>(
                         fault,
                         kind,
                         header,
+                        format: Format::Classic,
                     },
                 },
                 Err(_) => Failure::OutOfMemory,
@@ -50,8 +53,57 @@ fn refused<D>(
     }
 }
 
-/// Surveys what a reader gives; `path` is its name in the failure. The quiet points of one connection may be wanted behind
-/// a record.
+// Why a file isn't surveyed, and its header, as far as it was read.
+#[derive(Clone, Copy)]
+struct Unsurveyed {
+    fault: Fault,
+    header: Option<FileHeader>,
+}
+
+impl From<Fault> for Unsurveyed {
+    ghost from_gives = { λ fault unsurveyed. unsurveyed ≡ record { fault = fault; header = None } };
+
+    fn from(fault: Fault) -> Unsurveyed {
+        Unsurveyed {
+            fault,
+            header: None,
+        }
+    }
+}
+
+// Surveys what a source gives, of which nothing was read: a file in either format.
+fn surveyed<S: Source>(
+    alloc: Global,
+    source: S,
+    behind: Option<Behind>,
+) -> Result<Survey, Unsurveyed>
+where
+    S: Drop,
+    ensures refused { IfSome (S.remaining source) (λ file. S.notes source [] → IfErr result (λ u. IsHeaderOf file u.header)) }
+    ensures header { IfSome (S.remaining source) (λ file. S.notes source [] → IfOk result (λ s. IsHeaderOf file (header_of s))) }
+    ensures format { IfSome (S.remaining source) (λ file. S.notes source [] → IfOk result (λ s. FormatFits file (format_of_survey s))) }
+{
+    let capture = Capture::open(alloc, Keeping::new(source))?;
+    let mut reader = Buffered::new(alloc, capture, BUFFER)?;
+    let outcome = survey(alloc, &mut reader, behind);
+    let capture = reader.into_inner();
+    match outcome {
+        Ok(mut survey) => {
+            survey.set_format(capture.format());
+            let header = capture.into_inner().header();
+            survey.set_header(header);
+            Ok(survey)
+        }
+        Err(fault) => {
+            let fault = capture.fault_met(fault);
+            let header = capture.into_inner().header();
+            Err(Unsurveyed { fault, header })
+        }
+    }
+}
+
+/// Surveys what a reader gives, a file in either format; `path` is its name in the failure. The quiet points of one
+/// connection may be wanted behind a record.
 pub fn survey_of<D: Read + Drop>(
     alloc: Global,
     path: &str,
@@ -63,27 +115,18 @@ pub fn survey_of<D: Read + Drop>(
     // A header that is told is the one that the file begins with.
     ensures refused { IfSome (D.remaining file) (λ bytes. IfErr result (TellsHeaderOf bytes)) }
     ensures header { IfSome (D.remaining file) (λ bytes. IfOk result (λ s. IsHeaderOf bytes (header_of s))) }
+
+    // The format is that of the file, and a refusal that is told is its refusal.
+    ensures format { IfSome (D.remaining file) (λ bytes. IfOk result (λ s. FormatFits bytes (format_of_survey s))) }
 {
-    let source = Keeping::new(Counted::new(Watched::new(file)));
-    let Ok(mut reader) = Buffered::new(alloc, source, BUFFER) else {
-        return Err(Failure::OutOfMemory);
-    };
-    let outcome = survey(alloc, &mut reader, behind);
-    let source = reader.into_inner();
-    let header = source.header();
-    match outcome {
-        Ok(mut survey) => {
-            survey.set_header(header);
-            Ok(survey)
-        }
-        Err(fault) => {
-            let file = source.into_inner().into_inner();
-            Err(refused(alloc, path, fault, header, &file))
-        }
+    let mut file = Watched::new(file);
+    match surveyed(alloc, Counted::new(&mut file), behind) {
+        Ok(survey) => Ok(survey),
+        Err(Unsurveyed { fault, header }) => Err(refused(alloc, path, fault, header, &file)),
     }
 }
 
-/// Surveys the capture of that path; `-` is standard input.
+/// Surveys the file of that path; `-` is standard input.
 pub fn survey_at<R: AllocGlobal + Files + Input>(
     rt: &R,
     path: &str,

@@ -12,6 +12,7 @@ use Rattle.seatmelon_account.specs.declared.account.Verdict.{Verdict}
 use Rattle.seatmelon_account.specs.declared.account.Verdict.TheVariants as verdicts
 use Rattle.seatmelon_explain.specs.declared.explaining.Outcome.{Outcome}
 use Rattle.seatmelon_explain.specs.declared.explaining.Outcome.TheVariants as outcomes
+use Rattle.seatmelon_pcapng.specs.Formats.{capture_of}
 use Rattle.seatmelon_reading.specs.Reading.{IsReading, crossing_without}
 use Rattle.seatmelon_reading.specs.declared.reading.Reading.{Reading}
 
@@ -29,10 +30,10 @@ certificate_in texts = option_map (λ text. text.now) texts.certificate
 abbrev pub IsSomeExplained : Option (List ℕ) → Type 0
 IsSomeExplained text = (k : Crossing) × IsExplained k text
 
--- the records of the file that stay, where it is known, have no fault, and what crossed by them is explained
+-- the records of its classic capture that stay, where the file is known, have no fault, and what crossed by them is explained
 abbrev pub IsFileExplained : Parameters → List ℕ → Option (List ℕ) → Option (List ℕ) → Type 0
 IsFileExplained p without text None = ⊤
-IsFileExplained p without text (Some file) = (k : Crossing) × (crossing_without p without file ≡ Ok k) × IsExplained k text
+IsFileExplained p without text (Some file) = (k : Crossing) × (crossing_without p without (capture_of file) ≡ Ok k) × IsExplained k text
 
 -- the first record that is to be left out and that a capture of so many doesn't have
 abbrev pub IsMissing : List ℕ → ℕ → Option ℕ → Type 0

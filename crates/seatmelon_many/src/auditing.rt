@@ -1,17 +1,19 @@
 //! The command `audit`.
 ghost use Rattle.std.specs.Prelude.{◌≡◌, ◌<◌, ◌≤◌, ◌^◌, IfErr, IfOk, IfSome, length};
+ghost use Rattle.seatmelon_pcapng.specs.Formats.{capture_of};
 ghost use Rattle.seatmelon_audit.specs.Audits.{AreAudits};
 ghost use Rattle.seatmelon_commands.specs.Failing.{status_of, IsOfExplaining};
 
 use crate::files::parameter_files;
 use crate::judging::{Judged, judge};
-use rasta_pcap::{Counted, Fault};
+use rasta_pcap::{Counted, Fault, Source};
 use rasta_pdu::Params;
 use seatmelon_audit::{Audit, audit};
 use seatmelon_commands::{
     Failure, FileKind, Progress, STANDARD_INPUT, STANDARD_OUTPUT, Watched, advise, finish,
     kind_of_start, len_at, output_to, unread,
 };
+use seatmelon_pcapng::{Capture, Format};
 use seatmelon_tally::{status_of, write_audit, write_audit_json};
 use std::alloc::Global;
 use std::fs::File;
@@ -52,26 +54,52 @@ fn unaudited(alloc: Global, path: &str, fault: Fault, error: Option<io::Error>) 
     }
 }
 
-// Writes an audit to a device, all of it.
+// Writes an audit of a file in this format to a device, all of it.
 fn write_to<W: Write + Drop>(
     alloc: Global,
     form: Form,
     names: &[String],
     audit: &Audit,
+    format: Format,
     device: W,
 ) -> Result<(), Failure>
     ensures { IfErr result (λ failure. status_of failure ≡ 3) }
 {
     let mut output = output_to(alloc, device)?;
     let written = match form {
-        Form::Text => write_audit(&mut output, names, audit),
-        Form::Json => write_audit_json(&mut output, names, audit),
+        Form::Text => write_audit(&mut output, names, audit, format),
+        Form::Json => write_audit_json(&mut output, names, audit, format),
     };
     finish(alloc, STANDARD_OUTPUT, output, written)
 }
 
-/// Audits the connections with these parameters, whose files have these names, in one reading of the capture that a reader
-/// gives, and writes that to a device, all of it. Nothing is written before the capture is at its end.
+// An audit, and the format of the file.
+#[derive(Drop)]
+struct FileAudit {
+    audit: Audit,
+    format: Format,
+}
+
+// Audits the connections with these parameters in what a source gives, a file in either format. The source is taken
+// whole: a capture isn't opened over a reader that is borrowed here.
+fn audit_file<S: Source>(alloc: Global, params: &[Params], source: S) -> Result<FileAudit, Fault>
+where
+    S: Drop,
+    requires { length params.now < 2 ^ 32 }
+    ensures { IfSome (S.remaining source) (λ file. IfOk result (λ a. AreAudits params.now (capture_of file) a.audit)) }
+{
+    let mut capture = Capture::open(alloc, source)?;
+    match audit(alloc, params, &mut capture) {
+        Ok(audit) => {
+            let format = capture.format();
+            Ok(FileAudit { audit, format })
+        }
+        Err(fault) => Err(capture.fault_met(fault)),
+    }
+}
+
+/// Audits the connections with these parameters, whose files have these names, in one reading of the file that a reader
+/// gives, and writes that to a device, all of it. Nothing is written before the file is at its end.
 pub fn audit_of<D: Read + Drop, W: Write + Drop>(
     alloc: Global,
     auditing: &Auditing<'_>,
@@ -81,15 +109,15 @@ pub fn audit_of<D: Read + Drop, W: Write + Drop>(
     device: W,
 ) -> Result<Audited, Failure>
     requires { length params.now < 2 ^ 32 }
-    ensures audits { IfSome (D.remaining file) (λ bytes. IfOk result (λ a. AreAudits params.now bytes a.audit)) }
+    ensures audits { IfSome (D.remaining file) (λ bytes. IfOk result (λ a. AreAudits params.now (capture_of bytes) a.audit)) }
     ensures err { IfErr result (λ failure. status_of failure ≡ 3) }
 {
     let mut source = Counted::new(Watched::new(file));
-    let audit = audit(alloc, params, &mut source);
+    let audited = audit_file(alloc, params, &mut source);
     let reader = source.into_inner();
-    match audit {
-        Ok(audit) => {
-            write_to(alloc, auditing.form, names, &audit, device)?;
+    match audited {
+        Ok(FileAudit { audit, format }) => {
+            write_to(alloc, auditing.form, names, &audit, format, device)?;
             Ok(Audited {
                 audit,
                 kind: kind_of_start(reader.start()),

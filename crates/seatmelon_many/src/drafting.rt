@@ -70,6 +70,7 @@ fn write_drafts<R: AllocGlobal + Files + Print>(
         let draft = Draft {
             connection,
             fault: survey.fault(),
+            format: survey.format(),
             kept: None,
         };
         write_draft(rt, path.as_str(), draft)?;

@@ -2,11 +2,9 @@
 use Rattle.std.proofs.Common.{◌≡◌, ◌∙◌, ℕ, List, [], ◌++◌, append-nil, append_assoc, Bool, true, false, cond, Option, None, Some, Result, Ok, Err, ap, refl, subst, sym}
 use Rattle.std.specs.Io.KnownBytes.{Consumes, IsAtEnd, Keeps, ReadConsumes, prepend_known}
 use Rattle.std.proofs.KnownBytes.{Consumes-kept, Consumes-nil, Consumes-trans}
-use Rattle.rasta_pcap.specs.Buffered as buffers
 use Rattle.rasta_pcap.specs.Noting.{NotesOn, given}
-use Rattle.rasta_pcap.specs.declared.buffered.Buffered.{Buffered}
 use Rattle.seatmelon_pcapng.specs.Classics as classics
-use Rattle.seatmelon_pcapng.specs.Formats.{Gives, HasGiven, capture_of, left_behind, left_in, noted_behind, noted_by, refusal_in, refusal_of}
+use Rattle.seatmelon_pcapng.specs.Formats.{Gives, HasGiven, capture_of, format_in, format_of, left_in, noted_by}
 use Rattle.seatmelon_pcapng.specs.Giving as giving
 use Rattle.seatmelon_pcapng.specs.Giving.{told_as}
 use Rattle.seatmelon_pcapng.specs.Peeked as peeked
@@ -14,6 +12,8 @@ use Rattle.seatmelon_pcapng.specs.Peeked.{begins_pcapng}
 use Rattle.seatmelon_pcapng.specs.declared.capture.Capture.{Capture}
 use Rattle.seatmelon_pcapng.specs.declared.capture.Capture.TheVariants.{Plain, Converted}
 use Rattle.seatmelon_pcapng.specs.declared.classic.Classic.{Classic}
+use Rattle.seatmelon_pcapng.specs.declared.format.Format.TheVariants as kinds
+use Rattle.seatmelon_pcapng.specs.declared.format.Format.TheVariants.{Pcapng}
 use Rattle.seatmelon_pcapng.specs.declared.peeked.Peeked.{Peeked}
 use Rattle.seatmelon_pcapng.specs.Readings.{classic_of, reading_of}
 use Rattle.seatmelon_pcapng.specs.declared.refusal.Refusal.{Refusal}
@@ -24,7 +24,7 @@ pub read-consumes : {E : Type 0} (old new : Option (List ℕ)) (r : Result ℕ E
 read-consumes old new (Ok n) buf bytes = bytes.0
 read-consumes old new (Err e) buf bytes = Consumes-kept old old new [] (Consumes-nil old) bytes
 
-known-kept : (file : List ℕ) (left : Option (List ℕ)) → Keeps (Some file) left → left ≡ Some file
+pub known-kept : (file : List ℕ) (left : Option (List ℕ)) → Keeps (Some file) left → left ≡ Some file
 known-kept file None h = absurd h
 known-kept file (Some rest) h = ap (λ (l : List ℕ). Some l) h
 
@@ -48,19 +48,16 @@ module _ {S : Type 0} (remaining : S → Option (List ℕ)) (notes : S → List 
         was.2,
       )) (subst (λ (c : Capture S). noted_by remaining notes c told) is h)
 
-  abbrev Source : Type 0
-  Source = Buffered (Peeked S)
-
-  converted-given : (old new : Classic Source) (more : List ℕ) → NotesOn (giving.noted_by (left_behind remaining) (noted_behind notes)) old new more → (file given : List ℕ)
-      → giving.Gives (left_behind remaining) (noted_behind notes) old file given → giving.Gives (left_behind remaining) (noted_behind notes) new file (given ++ more)
+  converted-given : (old new : Classic (Peeked S)) (more : List ℕ) → NotesOn (giving.noted_by (peeked.left_in remaining) (peeked.noted_by notes)) old new more → (file given : List ℕ)
+      → giving.Gives (peeked.left_in remaining) (peeked.noted_by notes) old file given → giving.Gives (peeked.left_in remaining) (peeked.noted_by notes) new file (given ++ more)
   converted-given old new more on file given was =
-      gives-told (left_behind remaining) (noted_behind notes) new file (given ++ more)
-      (subst (giving.noted_by (left_behind remaining) (noted_behind notes) new) (append_assoc (told_as file) given more)
+      gives-told (peeked.left_in remaining) (peeked.noted_by notes) new file (given ++ more)
+      (subst (giving.noted_by (peeked.left_in remaining) (peeked.noted_by notes) new) (append_assoc (told_as file) given more)
       (on (told_as file ++ given) (file, given, refl, was)))
 
   -- a pcapng file was converted, and now some more of it
-  pub converted-more : (c : Capture S) (old new : Classic Source) (more : List ℕ) → c ≡ Converted old
-      → NotesOn (giving.noted_by (left_behind remaining) (noted_behind notes)) old new more → (told : List ℕ) → noted_by remaining notes c told
+  pub converted-more : (c : Capture S) (old new : Classic (Peeked S)) (more : List ℕ) → c ≡ Converted old
+      → NotesOn (giving.noted_by (peeked.left_in remaining) (peeked.noted_by notes)) old new more → (told : List ℕ) → noted_by remaining notes c told
       → noted_by remaining notes (Converted new) (told ++ more)
   converted-more c old new more is on told h =
       noted-more (Converted old) (Converted new) more told (λ file given was. (converted-given old new more on file given was.0, was.1))
@@ -71,26 +68,16 @@ module _ {S : Type 0} (remaining : S → Option (List ℕ)) (notes : S → List 
       → noted_by remaining notes (Plain p) (told_as file)
   plain-begins p file noted left begins = (file, [], sym (append-nil (told_as file)), (noted, kept-consumes file (peeked.left_in remaining p) left, begins))
 
-  module _ (b : Source) (p : Peeked S) (is : buffers.source_of b ≡ p) (empty : buffers.held_by b ≡ []) where
-    -- what is behind a buffer that holds nothing
-    pub left-behind : (file : List ℕ) → Keeps (Some file) (peeked.left_in remaining p) → left_behind remaining b ≡ Some file
-    left-behind file left =
-        ap (λ l. prepend_known l (peeked.left_in remaining (buffers.source_of b))) empty ∙ ap (λ q. prepend_known [] (peeked.left_in remaining q)) is
-        ∙ ap (prepend_known []) (known-kept file (peeked.left_in remaining p) left)
-
-    pub noted-behind : peeked.noted_by notes p [] → noted_behind notes b []
-    noted-behind noted = subst (λ l. peeked.noted_by notes (buffers.source_of b) l) (sym empty) (subst (λ q. peeked.noted_by notes q []) (sym is) noted)
-
   -- at the beginning of a pcapng file
-  pub converted-begins : (c : Classic Source) (file : List ℕ) → giving.noted_by (left_behind remaining) (noted_behind notes) c (told_as file) → begins_pcapng file ≡ true
+  pub converted-begins : (c : Classic (Peeked S)) (file : List ℕ) → giving.noted_by (peeked.left_in remaining) (peeked.noted_by notes) c (told_as file) → begins_pcapng file ≡ true
       → noted_by remaining notes (Converted c) (told_as file)
   converted-begins c file told begins = (
     file,
     [],
     sym (append-nil (told_as file)),
     (
-      gives-told (left_behind remaining) (noted_behind notes) c file []
-          (subst (giving.noted_by (left_behind remaining) (noted_behind notes) c) (sym (append-nil (told_as file))) told),
+      gives-told (peeked.left_in remaining) (peeked.noted_by notes) c file []
+          (subst (giving.noted_by (peeked.left_in remaining) (peeked.noted_by notes) c) (sym (append-nil (told_as file))) told),
       begins,
     ),
   )
@@ -105,8 +92,8 @@ consumes-held whole held given (Some rest) h = h ∙ sym (append_assoc given hel
 captured-plain : (file : List ℕ) (b : Bool) → begins_pcapng file ≡ b → cond b (classic_of (reading_of file)) file ≡ capture_of file
 captured-plain file b e = ap (λ b. cond b (classic_of (reading_of file)) file) (sym e)
 
-refused-so : (file : List ℕ) (b : Bool) → begins_pcapng file ≡ b → cond b (reading_of file).refusal None ≡ refusal_of file
-refused-so file b e = ap (λ (b : Bool). cond b (reading_of file).refusal None) (sym e)
+told-so : (file : List ℕ) (b : Bool) → begins_pcapng file ≡ b → cond b (Pcapng (reading_of file).refusal) kinds.Classic ≡ format_of file
+told-so file b e = ap (λ (b : Bool). cond b (Pcapng (reading_of file).refusal) kinds.Classic) (sym e)
 
 module _ {S : Type 0} (remaining : S → Option (List ℕ)) (notes : S → List ℕ → Type 0) where
   gives-of : (c : Capture S) (file given : List ℕ) → HasGiven remaining notes c file given → Gives remaining notes c file given
@@ -118,13 +105,11 @@ module _ {S : Type 0} (remaining : S → Option (List ℕ)) (notes : S → List 
   }
   gives-of (Converted c) file given h =
       let g = h.0 in
-      let b = classics.source_of c in
-      let p = buffers.source_of b in record {
-        read = (g.read ++ buffers.held_by b) ++ peeked.held_by p;
+      let p = classics.source_of c in record {
+        read = g.read ++ peeked.held_by p;
         noted = g.noted;
-        passed = consumes-held file (peeked.held_by p) (g.read ++ buffers.held_by b) (remaining (peeked.source_of p))
-            (consumes-held file (buffers.held_by b) g.read (peeked.left_in remaining p) g.passed);
-        left = subst (λ (l : List ℕ). Consumes (Some l) (classics.left_in (left_behind remaining) c) given) (captured-plain file true h.1) g.left;
+        passed = consumes-held file (peeked.held_by p) g.read (remaining (peeked.source_of p)) g.passed;
+        left = subst (λ (l : List ℕ). Consumes (Some l) (classics.left_in (peeked.left_in remaining) c) given) (captured-plain file true h.1) g.left;
       }
 
   -- the file that was told is the one of which these bytes were given
@@ -136,21 +121,24 @@ module _ {S : Type 0} (remaining : S → Option (List ℕ)) (notes : S → List 
   pub capture-told : (c : Capture S) (file given : List ℕ) → noted_by remaining notes c (told_as file ++ given) → Gives remaining notes c file given
   capture-told c file given h = gives-of c file given (has_given-told c file given h)
 
-  refusal-ended : (c : Capture S) (file given : List ℕ) → HasGiven remaining notes c file given → IsAtEnd (left_in remaining c) → refusal_in c ≡ refusal_of file
-  refusal-ended (Plain p) file given h end = refused-so file false h.2
-  refusal-ended (Converted c) file given h end =
-      gives-ended (left_behind remaining) (noted_behind notes) c file given h.0 end ∙ refused-so file true h.1
+  format-ended : (c : Capture S) (file given : List ℕ) → HasGiven remaining notes c file given → IsAtEnd (left_in remaining c) → format_in c ≡ format_of file
+  format-ended (Plain p) file given h end = told-so file false h.2
+  format-ended (Converted c) file given h end =
+      ap (λ (r : Option Refusal). Pcapng r) (gives-ended (peeked.left_in remaining) (peeked.noted_by notes) c file given h.0 end) ∙ told-so file true h.1
 
-  -- once all was given, the refusal that was met is that of the file
-  pub capture-ended : (c : Capture S) (file given : List ℕ) → noted_by remaining notes c (told_as file ++ given) → IsAtEnd (left_in remaining c) → refusal_in c ≡ refusal_of file
-  capture-ended c file given h = refusal-ended c file given (has_given-told c file given h)
+  -- once all was given, the format that is told is that of the file
+  pub capture-ended : (c : Capture S) (file given : List ℕ) → noted_by remaining notes c (told_as file ++ given) → IsAtEnd (left_in remaining c) → format_in c ≡ format_of file
+  capture-ended c file given h = format-ended c file given (has_given-told c file given h)
 
-  refusal-met : (c : Capture S) (file given : List ℕ) (refusal : Refusal) → HasGiven remaining notes c file given → refusal_in c ≡ Some refusal → refusal_of file ≡ Some refusal
+  refusal-met : (c : Capture S) (file given : List ℕ) (refusal : Refusal) → HasGiven remaining notes c file given → format_in c ≡ Pcapng (Some refusal)
+      → format_of file ≡ Pcapng (Some refusal)
   refusal-met (Plain p) file given refusal h is = absurd cc
   refusal-met (Converted c) file given refusal h is =
-      sym (refused-so file true h.1) ∙ gives-refused (left_behind remaining) (noted_behind notes) c file given refusal h.0 is
+      let met : classics.refusal_in c ≡ Some refusal = cc in
+      sym (told-so file true h.1)
+      ∙ ap (λ (r : Option Refusal). Pcapng r) (gives-refused (peeked.left_in remaining) (peeked.noted_by notes) c file given refusal h.0 met)
 
   -- a refusal that was met is that of the file
-  pub capture-refused : (c : Capture S) (file given : List ℕ) (refusal : Refusal) → noted_by remaining notes c (told_as file ++ given) → refusal_in c ≡ Some refusal
-      → refusal_of file ≡ Some refusal
+  pub capture-refused : (c : Capture S) (file given : List ℕ) (refusal : Refusal) → noted_by remaining notes c (told_as file ++ given)
+      → format_in c ≡ Pcapng (Some refusal) → format_of file ≡ Pcapng (Some refusal)
   capture-refused c file given refusal h = refusal-met c file given refusal (has_given-told c file given h)

@@ -13,7 +13,7 @@ use Rattle.seatmelon_pcapng.specs.Readings.{Reading, classic_of, mark_of, packet
 use Rattle.seatmelon_pcapng.specs.Sections.{interfaces_in, order_in}
 use Rattle.seatmelon_pcapng.specs.declared.classic.Classic.{Classic}
 use Rattle.seatmelon_pcapng.specs.declared.classic.Progress.{Progress}
-use Rattle.seatmelon_pcapng.specs.declared.classic.Progress.TheVariants.{InFront, InBlock, Ended}
+use Rattle.seatmelon_pcapng.specs.declared.classic.Progress.TheVariants.{Going, Ended}
 use Rattle.seatmelon_pcapng.specs.declared.interface.Interface.{Interface}
 use Rattle.seatmelon_pcapng.specs.declared.order.Order.{Order}
 use Rattle.seatmelon_pcapng.specs.declared.refusal.Refusal.{Refusal}
@@ -79,7 +79,7 @@ told_apart file other given more e =
 
 -- ---- what is known of the refusal of a file
 
-none_behind : (l m : List ℕ) → l ++ m ≡ [] → m ≡ []
+pub none_behind : (l m : List ℕ) → l ++ m ≡ [] → m ≡ []
 none_behind [] m e = e
 none_behind (x ∷ l) m e = absurd cc
 
@@ -105,14 +105,12 @@ module _ (order : Option Order) (interfaces : List Interface) (at : ℕ) (held :
 
   all-given : (known : Option (List ℕ)) (p : Progress) (r : Option Refusal) → left_by held (option_map (given_by order interfaces at held) known) p ≡ Some []
       → refusal_left_by (option_map (λ rest. (reading_with rest).refusal) known) p ≡ Some r → refusal_by p ≡ r
-  all-given known InFront r all is = none-known known r all is
-  all-given known (InBlock front) r all is = none-known known r all is
+  all-given known Going r all is = none-known known r all is
   all-given known (Ended refusal) r all is = cc
 
 met : (known : Option (Option Refusal)) (p : Progress) (refusal : Refusal) (r : Option Refusal) → refusal_by p ≡ Some refusal
     → refusal_left_by known p ≡ Some r → r ≡ Some refusal
-met known InFront refusal r is left = absurd cc
-met known (InBlock front) refusal r is left = absurd cc
+met known Going refusal r is left = absurd cc
 met known (Ended other) refusal r is left = (let same : other ≡ r = cc in sym same ∙ is)
 
 known_end : (left : Option (List ℕ)) (whole given : List ℕ) → Consumes (Some whole) left given → IsAtEnd left → left ≡ Some []

@@ -1,4 +1,5 @@
 pub mod Captures
+pub mod Comings
 pub mod Filled
 pub mod Formats
 pub mod Gives
@@ -7,5 +8,6 @@ pub mod Options
 pub mod Passing
 pub mod Refusals
 pub mod Steps
+pub mod Through
 pub mod Units
 pub mod Ways

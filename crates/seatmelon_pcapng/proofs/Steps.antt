@@ -102,9 +102,6 @@ front-least known bytes front e = front_by-least (order_of known bytes) bytes fr
 not_zero : (n : ℕ) → 12 ≤ n → nat_eq n 0 ≡ false
 not_zero n h = grind (arith, nat_tests)
 
-is_less : (n m : ℕ) → n < m → nat_lt n m ≡ true
-is_less n m h = grind (arith, nat_tests)
-
 at_least : (n m : ℕ) → m ≤ n → nat_lt n m ≡ false
 at_least n m h = grind (arith, nat_tests)
 
@@ -119,20 +116,11 @@ next-front s h =
 pub next-ended : (s : State) → s.rest ≡ [] → next_of s ≡ ended
 next-ended s h = ap (λ (l : List ℕ). next_by (nat_eq (length l) 0) (nat_lt (length l) 12) (by_front s (front_of s.order s.rest))) h
 
-pub next-short : (s : State) → 0 < length s.rest → length s.rest < 12 → next_of s ≡ refused Cut
-next-short s some few =
-    let not_none : nat_eq (length s.rest) 0 ≡ false = grind (arith, nat_tests) in
-    ap (λ b. next_by b (nat_lt (length s.rest) 12) (by_front s (front_of s.order s.rest))) not_none
-    ∙ ap (λ b. next_by false b (by_front s (front_of s.order s.rest))) (is_less (length s.rest) 12 few)
-
 pub next-wrong_front : (s : State) (reason : Reason) → 12 ≤ length s.rest → front_of s.order s.rest ≡ Err reason → next_of s ≡ refused reason
 next-wrong_front s reason h e = next-front s h ∙ ap (by_front s) e
 
 abbrev by_block : Bool → State → Front → Next
 by_block cut s front = cond cut (refused Cut) (by_turn front (turn_of s.interfaces front (take front.len s.rest)))
-
-pub next-cut : (s : State) (front : Front) → 12 ≤ length s.rest → front_of s.order s.rest ≡ Ok front → length s.rest < front.len → next_of s ≡ refused Cut
-next-cut s front h e short = next-front s h ∙ ap (by_front s) e ∙ ap (λ b. by_block b s front) (is_less (length s.rest) front.len short)
 
 pub next-block : (s : State) (front : Front) (turn : Result Turn Reason) → 12 ≤ length s.rest → front_of s.order s.rest ≡ Ok front → front.len ≤ length s.rest
     → turn_of s.interfaces front (take front.len s.rest) ≡ turn → next_of s ≡ by_turn front turn

@@ -7,7 +7,7 @@ use Rattle.seatmelon_pcapng.specs.Readings.{Next, State, next_of, reading_left, 
 use Rattle.seatmelon_pcapng.specs.Sections.{interfaces_in, order_in}
 use Rattle.seatmelon_pcapng.specs.declared.classic.Classic.{Classic}
 use Rattle.seatmelon_pcapng.specs.declared.classic.Progress.{Progress}
-use Rattle.seatmelon_pcapng.specs.declared.classic.Progress.TheVariants.{InFront, InBlock, Ended}
+use Rattle.seatmelon_pcapng.specs.declared.classic.Progress.TheVariants.{Going, Ended}
 use Rattle.seatmelon_pcapng.specs.declared.interface.Interface.{Interface}
 use Rattle.seatmelon_pcapng.specs.declared.order.Order.{Order}
 use Rattle.seatmelon_pcapng.specs.declared.refusal.Refusal.{Refusal}
@@ -33,14 +33,13 @@ given_by order interfaces at held rest = held ++ records_bytes (reading_left (re
 abbrev pub given_with : {S : Type 0} → Classic S → List ℕ → List ℕ
 given_with c rest = given_by (order_in c.section) (interfaces_in c.section) c.at (bytes_held c.held) rest
 
--- what was read of a block, and what its source will give
+-- what was read and not yet passed, and what its source will give
 abbrev pub rest_in : {S : Type 0} → (S → Option (List ℕ)) → Classic S → Option (List ℕ)
-rest_in remaining c = prepend_known (bytes_of c.block) (remaining c.source)
+rest_in remaining c = prepend_known (bytes_of c.blocks) (remaining c.source)
 
 -- once it has ended, what it holds alone
 abbrev pub left_by : List ℕ → Option (List ℕ) → Progress → Option (List ℕ)
-left_by held known InFront = known
-left_by held known (InBlock front) = known
+left_by held known Going = known
 left_by held known (Ended refusal) = Some held
 
 abbrev pub left_in : {S : Type 0} → (S → Option (List ℕ)) → Classic S → Option (List ℕ)
@@ -58,8 +57,7 @@ refusal_with c rest = (reading_left (state_with c rest)).refusal
 
 -- once it has ended, the refusal that it met
 abbrev pub refusal_left_by : Option (Option Refusal) → Progress → Option (Option Refusal)
-refusal_left_by known InFront = known
-refusal_left_by known (InBlock front) = known
+refusal_left_by known Going = known
 refusal_left_by known (Ended refusal) = Some refusal
 
 -- the refusal that what is left ends with, where it is known

@@ -1,8 +1,6 @@
 -- A capture in either format, as a classic one.
-use Rattle.std.specs.Prelude.{◌≡◌, ℕ, List, ◌++◌, true, false, if◌then◌else◌, Option, None, Some}
+use Rattle.std.specs.Prelude.{◌≡◌, ℕ, List, ◌++◌, Bool, true, false, if◌then◌else◌, Option, None, Some}
 use Rattle.std.specs.Io.KnownBytes.{Consumes}
-use Rattle.rasta_pcap.specs.Buffered as buffers
-use Rattle.rasta_pcap.specs.declared.buffered.Buffered.{Buffered}
 use Rattle.seatmelon_pcapng.specs.Classics as classics
 use Rattle.seatmelon_pcapng.specs.Giving as giving
 use Rattle.seatmelon_pcapng.specs.Giving.{told_as}
@@ -11,37 +9,39 @@ use Rattle.seatmelon_pcapng.specs.Peeked.{begins_pcapng}
 use Rattle.seatmelon_pcapng.specs.Readings.{classic_of, reading_of}
 use Rattle.seatmelon_pcapng.specs.declared.capture.Capture.{Capture}
 use Rattle.seatmelon_pcapng.specs.declared.capture.Capture.TheVariants.{Plain, Converted}
-use Rattle.seatmelon_pcapng.specs.declared.peeked.Peeked.{Peeked}
+use Rattle.seatmelon_pcapng.specs.declared.format.Format.{Format}
+use Rattle.seatmelon_pcapng.specs.declared.format.Format.TheVariants.{Classic, Pcapng}
 use Rattle.seatmelon_pcapng.specs.declared.refusal.Refusal.{Refusal}
 
 -- the classic capture of a pcapng file, or else the file itself
 abbrev pub capture_of : List ℕ → List ℕ
 capture_of file = if begins_pcapng file then classic_of (reading_of file) else file
 
--- why a file is refused, if it is one of pcapng
-abbrev pub refusal_of : List ℕ → Option Refusal
-refusal_of file = if begins_pcapng file then (reading_of file).refusal else None
+-- in which format a file is read, and why it is refused, if it is one of pcapng
+abbrev pub format_of : List ℕ → Format
+format_of file = if begins_pcapng file then Pcapng (reading_of file).refusal else Classic
+
+abbrev pub is_of_pcapng : Format → Bool
+is_of_pcapng Classic = false
+is_of_pcapng (Pcapng refusal) = true
+
+abbrev pub refusal_told : Format → Option Refusal
+refusal_told Classic = None
+refusal_told (Pcapng refusal) = refusal
 
 abbrev pub source_of : {S : Type 0} → Capture S → S
 source_of (Plain p) = peeked.source_of p
-source_of (Converted c) = peeked.source_of (buffers.source_of (classics.source_of c))
+source_of (Converted c) = peeked.source_of (classics.source_of c)
 
-abbrev pub refusal_in : {S : Type 0} → Capture S → Option Refusal
-refusal_in (Plain p) = None
-refusal_in (Converted c) = classics.refusal_in c
-
--- what the source of a converter will give
-abbrev pub left_behind : {S : Type 0} → (S → Option (List ℕ)) → Buffered (Peeked S) → Option (List ℕ)
-left_behind remaining b = buffers.left_in (peeked.left_in remaining) b
-
--- and what that has noted
-abbrev pub noted_behind : {S : Type 0} → (S → List ℕ → Type 0) → Buffered (Peeked S) → List ℕ → Type 0
-noted_behind notes b passed = buffers.noted_by (peeked.noted_by notes) b passed
+-- in which format it reads, and the refusal that it has met
+abbrev pub format_in : {S : Type 0} → Capture S → Format
+format_in (Plain p) = Classic
+format_in (Converted c) = Pcapng (classics.refusal_in c)
 
 -- what it will give
 abbrev pub left_in : {S : Type 0} → (S → Option (List ℕ)) → Capture S → Option (List ℕ)
 left_in remaining (Plain p) = peeked.left_in remaining p
-left_in remaining (Converted c) = classics.left_in (left_behind remaining) c
+left_in remaining (Converted c) = classics.left_in (peeked.left_in remaining) c
 
 abbrev pub failures_of : {S : Type 0} → (S → ℕ) → Capture S → ℕ
 failures_of count (Plain p) = count (peeked.source_of p)
@@ -51,7 +51,7 @@ failures_of count (Converted c) = classics.failures_of c
 abbrev pub HasGiven : {S : Type 0} → (S → Option (List ℕ)) → (S → List ℕ → Type 0) → Capture S → List ℕ → List ℕ → Type 0
 HasGiven remaining notes (Plain p) file given =
     peeked.noted_by notes p given × Consumes (Some file) (peeked.left_in remaining p) given × (begins_pcapng file ≡ false)
-HasGiven remaining notes (Converted c) file given = giving.Gives (left_behind remaining) (noted_behind notes) c file given × (begins_pcapng file ≡ true)
+HasGiven remaining notes (Converted c) file given = giving.Gives (peeked.left_in remaining) (peeked.noted_by notes) c file given × (begins_pcapng file ≡ true)
 
 -- a file was told, and these bytes were given of it
 abbrev pub noted_by : {S : Type 0} → (S → Option (List ℕ)) → (S → List ℕ → Type 0) → Capture S → List ℕ → Type 0

@@ -1,5 +1,6 @@
 pub mod Blocks
 pub mod Classics
+pub mod Comings
 pub mod Formats
 pub mod Giving
 pub mod Interfaces
@@ -10,3 +11,4 @@ pub mod Peeked
 pub mod Progress
 pub mod Readings
 pub mod Sections
+pub mod Through

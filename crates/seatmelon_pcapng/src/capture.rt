@@ -1,17 +1,14 @@
 //! A capture in either format, as a classic one.
-ghost use Rattle.std.specs.Prelude.{◌≡◌, ◌⊎◌, [], Some, IfOk, IfErr, IfSome};
+ghost use Rattle.std.specs.Prelude.{◌≡◌, ◌≢◌, ◌⊎◌, [], Some, IfOk, IfErr, IfSome};
 ghost use Rattle.rasta_pcap.specs.Fault.{no_memory, read_failed};
 ghost use Rattle.seatmelon_pcapng.specs.Giving.{told_as};
 
 use crate::classic::Classic;
+use crate::format::Format;
 use crate::peeked::Peeked;
-use crate::refusal::Refusal;
-use rasta_pcap::{Buffered, Fault, Source};
+use rasta_pcap::{Fault, Source};
 use std::alloc::Global;
 use std::io;
-
-// How many bytes of a pcapng file are read at once.
-const BUFFER: usize = 65_536;
 
 /// A source of a classic capture over a file in either format, which its first four bytes tell.
 #[derive(Drop)]
@@ -20,11 +17,12 @@ pub enum Capture<S> {
     Plain(Peeked<S>),
 
     /// A pcapng file.
-    Converted(Classic<Buffered<Peeked<S>>>),
+    Converted(Classic<Peeked<S>>),
 }
 
 impl<S: Source> Capture<S> {
-    ghost use Rattle.seatmelon_pcapng.specs.Formats.{capture_of, left_in, noted_by, refusal_in, source_of};
+    ghost use Rattle.seatmelon_pcapng.specs.Formats.{capture_of, format_in, is_of_pcapng, left_in, noted_by, source_of};
+    ghost use Rattle.seatmelon_pcapng.specs.Peeked.{begins_pcapng};
 
     /// Looks at the first bytes of a file, of which nothing was read.
     ///
@@ -34,32 +32,43 @@ impl<S: Source> Capture<S> {
         S: Drop,
         ensures left { IfOk result (λ c. IfSome (S.remaining source) (λ file. left_in S.remaining c ≡ Some (capture_of file))) }
         ensures noted { IfOk result (λ c. IfSome (S.remaining source) (λ file. S.notes source [] → noted_by S.remaining S.notes c (told_as file))) }
+        ensures format { IfOk result (λ c. IfSome (S.remaining source) (λ file. is_of_pcapng (format_in c) ≡ begins_pcapng file)) }
         ensures err { IfErr result (λ f. (f ≡ no_memory) ⊎ (f ≡ read_failed)) }
     {
         let peeked = Peeked::new(source)?;
         if !peeked.is_pcapng() {
             return Ok(Capture::Plain(peeked));
         }
-        let source = Buffered::new(alloc, peeked, BUFFER)?;
-        Ok(Capture::Converted(Classic::new(alloc, source)?))
+        Ok(Capture::Converted(Classic::new(alloc, peeked)?))
     }
 
-    /// Why a pcapng file is refused, once all before was read.
-    pub fn refusal(&self) -> Option<Refusal>
-        ensures { result ≡ refusal_in self.now }
+    /// In which format it reads; why a pcapng file is refused it tells once all before was read.
+    pub fn format(&self) -> Format
+        ensures { result ≡ format_in self.now }
     {
         match self {
-            Capture::Plain(_) => None,
-            Capture::Converted(classic) => classic.refusal(),
+            Capture::Plain(_) => Format::Classic,
+            Capture::Converted(classic) => Format::Pcapng(classic.refusal()),
         }
     }
 
-    /// Whether a read failed since there was no memory for a block of a pcapng file.
-    pub fn lacks_memory(&self) -> bool {
+    // Whether a read failed since there was no memory for a block of a pcapng file.
+    fn lacks_memory(&self) -> bool {
         match self {
             Capture::Plain(_) => false,
             Capture::Converted(classic) => classic.lacks_memory(),
         }
+    }
+
+    /// The fault that was met where it was read: of a failed read it is told where memory was lacking for a block.
+    pub fn fault_met(&self, fault: Fault) -> Fault
+        ensures kept { fault.number ≢ 2 → result ≡ fault }
+        ensures failed { (result ≡ fault) ⊎ (result ≡ no_memory) }
+    {
+        if fault.number == Fault::READ_FAILED && self.lacks_memory() {
+            return Fault::at(Fault::NO_MEMORY, 0);
+        }
+        fault
     }
 
     /// Gives the source back, without what was read of it and not yet given.
@@ -68,7 +77,7 @@ impl<S: Source> Capture<S> {
     {
         match self {
             Capture::Plain(peeked) => peeked.into_inner(),
-            Capture::Converted(classic) => classic.into_inner().into_inner().into_inner(),
+            Capture::Converted(classic) => classic.into_inner().into_inner(),
         }
     }
 }

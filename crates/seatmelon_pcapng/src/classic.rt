@@ -1,19 +1,19 @@
 //! A source that gives the bytes of a classic capture while it reads those of a pcapng file.
-ghost use Rattle.std.specs.Prelude.{◌≡◌, ◌+◌, ◌≤◌, ◌<◌, [], true, length, option_map, Some, Ok, IfOk, IfErr, IfSome, OnOk, OnErr};
+ghost use Rattle.std.specs.Prelude.{◌≡◌, ◌+◌, ◌≤◌, ◌<◌, ◌++◌, [], true, length, option_map, Some, IfOk, IfErr, IfSome, OnOk, OnErr};
 ghost use Rattle.std.specs.Io.KnownBytes.{IsAtEnd, Keeps};
-ghost use Rattle.std.proofs.Props.{props};
 ghost use Rattle.std.specs.List.{flat_map};
 ghost use Rattle.rasta_pcap.specs.Fault.{no_memory};
 ghost use Rattle.rasta_pcap.specs.Noting.{PassesOn};
-ghost use Rattle.seatmelon_pcapng.specs.Blocks.{front_of, least_length, most_captured};
-ghost use Rattle.seatmelon_pcapng.specs.Memory.{bytes_held, bytes_of, room_of};
-ghost use Rattle.seatmelon_pcapng.specs.Progress.{IsPlaced};
+ghost use Rattle.seatmelon_pcapng.specs.Blocks.{most_captured};
+ghost use Rattle.seatmelon_pcapng.specs.Comings.{IsCut, Tells};
+ghost use Rattle.seatmelon_pcapng.specs.Memory.{bytes_held, bytes_of};
 ghost use Rattle.seatmelon_pcapng.specs.Readings.{EndsWithin, classic_of, front_by, packet_bytes, packets_in, reading_of};
-ghost use Rattle.seatmelon_pcapng.specs.Sections.{order_in};
+ghost use Rattle.seatmelon_pcapng.specs.Sections.{interfaces_in, order_in};
 
-use crate::block::{Found, Turn, turn_of};
-use crate::front::{FRONT, Front};
-use crate::memory::{Block, Held};
+use crate::block::{Found, Turn};
+use crate::coming::Coming;
+use crate::front::Front;
+use crate::memory::{Blocks, Held};
 use crate::refusal::{Reason, Refusal};
 use crate::section::Section;
 use byteorder::{ByteOrder, LittleEndian};
@@ -31,16 +31,19 @@ const HEADER: [u8; 24] = [
 // The bytes of a record before its frame.
 const RECORD_FRONT: usize = 16;
 
-// Where a reading stands.
+// How many bytes are read at once, where no block is longer.
+const BUFFER: usize = 65_536;
+
+// How many bytes of records are enough to be given: so few that they are still at hand when they are read.
+const ENOUGH: usize = 2048;
+
+// Whether a reading goes on.
 #[derive(Clone, Copy)]
 enum Progress {
-    // In the front of a block.
-    InFront,
+    // Blocks may follow.
+    Going,
 
-    // Behind the front of a block.
-    InBlock(Front),
-
-    // At the end, or at a block that is refused.
+    // The end was met, or a block that is refused.
     Ended(Option<Refusal>),
 }
 
@@ -48,23 +51,21 @@ enum Progress {
 /// block, in their order. That of a frame other than one of Ethernet is empty. Times are cut to nanoseconds; a packet that
 /// has none, or one whose seconds don't fit 32 bits, is told as captured at 0.
 ///
-/// It keeps one block and one record. A file that is refused ends inside the record behind those that were read, and
-/// [`Classic::refusal`] tells why.
+/// It keeps what it read at once, and few records. A file that is refused ends inside the record behind those that were
+/// read, and [`Classic::refusal`] tells why.
 #[derive(Drop)]
 pub struct Classic<S> {
     source: S,
     section: Section,
 
-    // The offset of the block that is read.
+    // The offset of the next block.
     at: u64,
 
-    block: Block,
+    blocks: Blocks,
     held: Held,
     progress: Progress,
     failures: u64,
     lacks_memory: bool,
-    ghost room: { 12 ≤ room_of block },
-    ghost placed: { IsPlaced (order_in section) block progress } by { Prim.hlevel props },
 }
 
 // The front of a record.
@@ -82,13 +83,12 @@ fn front_of(found: &Found) -> [u8; RECORD_FRONT]
     front
 }
 
-// Holds the record of a packet, if the block is one of a packet.
+// Holds the record of a packet behind the others, if the block is one of a packet.
 #[inline(always)]
 fn spell(held: &mut Held, block: &[u8], turn: &Turn) -> Result<(), AllocError>
-    requires none { bytes_held held.old ≡ [] }
-    requires within { EndsWithin (length block.now) turn.now }
-    ensures held { OnOk result (bytes_held held.new ≡ flat_map packet_bytes (packets_in block.now turn.now)) }
-    ensures kept { OnErr result (bytes_held held.new ≡ []) }
+    requires { EndsWithin (length block.now) turn.now }
+    ensures held { OnOk result (bytes_held held.new ≡ bytes_held held.old ++ flat_map packet_bytes (packets_in block.now turn.now)) }
+    ensures kept { OnErr result (bytes_held held.new ≡ bytes_held held.old) }
 {
     match turn {
         Turn::Packet(found) => held.put(&front_of(found), &block[found.start..found.end]),
@@ -101,7 +101,7 @@ impl<S: Source> Classic<S> {
     ghost use Rattle.seatmelon_pcapng.specs.Giving.{noted_by, told_as};
     ghost use Rattle.seatmelon_pcapng.specs.Progress.{HasEnded, IsReading};
     ghost use Rattle.seatmelon_pcapng.specs.Readings.Next.{goes, refused};
-    ghost use Rattle.seatmelon_pcapng.specs.declared.classic.Progress.TheVariants.{InBlock, InFront};
+    ghost use Rattle.seatmelon_pcapng.specs.declared.coming.Coming.TheVariants.{Wanted};
 
     /// The source of a pcapng file, of which nothing was read.
     ///
@@ -114,17 +114,17 @@ impl<S: Source> Classic<S> {
         ensures noted { IfOk result (λ c. IfSome (S.remaining source) (λ file. S.notes source [] → noted_by S.remaining S.notes c (told_as file))) }
         ensures err { IfErr result (λ f. f ≡ no_memory) }
     {
-        let mut block = Block::new(alloc);
-        block.make_room(FRONT)?;
+        let mut blocks = Blocks::new(alloc);
+        blocks.make_room(BUFFER)?;
         let mut held = Held::new(alloc);
         held.put(&HEADER, &[])?;
         Ok(Classic {
             source,
             section: Section::new(alloc),
             at: 0,
-            block,
+            blocks,
             held,
-            progress: Progress::InFront,
+            progress: Progress::Going,
             failures: 0,
             lacks_memory: false,
         })
@@ -136,7 +136,7 @@ impl<S: Source> Classic<S> {
     {
         match self.progress {
             Progress::Ended(refusal) => refusal,
-            Progress::InFront | Progress::InBlock(_) => None,
+            Progress::Going => None,
         }
     }
 
@@ -180,58 +180,72 @@ impl<S: Source> Classic<S> {
         Ok(())
     }
 
-    // Goes on behind a block.
-    fn go(&mut self, front: Front, turn: &Turn) -> io::Result<()>
-        requires none { bytes_held self.old.held ≡ [] }
-        requires reading { self.old.progress ≡ InBlock front }
+    // What comes next, as far as was read.
+    #[inline(always)]
+    fn coming(&self) -> Coming
+        ensures { Tells (order_in self.now.section) (interfaces_in self.now.section) (bytes_of self.now.blocks) result }
+    {
+        let section = &self.section;
+        Coming::of(section.order(), section.interfaces(), self.blocks.bytes())
+    }
+
+    // Goes on behind a block; for want of memory it stays before it.
+    #[inline(always)]
+    fn go(&mut self, front: Front, turn: &Turn) -> Result<(), AllocError>
+        requires reading { IsReading self.old.progress }
         requires next { Comes S.remaining self.old (goes front turn.now) }
-        requires whole { length (bytes_of self.old.block) ≡ front.len }
+        requires whole { front.len ≤ length (bytes_of self.old.blocks) }
         requires within { EndsWithin front.len turn.now }
         ensures left { Keeps (left_in S.remaining self.old) (left_in S.remaining self.new) }
         ensures refusal { Stays (refusal_left S.remaining self.old) (refusal_left S.remaining self.new) }
         ensures source { source_of self.new ≡ source_of self.old }
+        ensures passed { OnOk result (length (bytes_of self.new.blocks) + front.len ≡ length (bytes_of self.old.blocks)) }
+        ensures kept { OnErr result ((order_in self.new.section ≡ order_in self.old.section)
+            × (interfaces_in self.new.section ≡ interfaces_in self.old.section) × (self.new.blocks ≡ self.old.blocks)) }
+        ensures progress { self.new.progress ≡ self.old.progress }
         ensures failures { failures_of self.new ≡ failures_of self.old }
     {
-        let is_held = spell(&mut self.held, self.block.bytes(), turn).is_ok();
-        if !is_held || self.section.pass(front, turn).is_err() {
-            return Err(self.memory_refused());
-        }
+        spell(&mut self.held, &self.blocks.bytes()[..front.len], turn)?;
+        self.section.pass(front, turn)?;
         self.at = self.at.wrapping_add(front.len as u64);
-        self.block.clear();
-        self.progress = Progress::InFront;
+        self.blocks.pass(front.len);
         Ok(())
     }
 
-    // Reads the front of a block.
-    fn read_front(&mut self) -> io::Result<()>
-        requires none { bytes_held self.old.held ≡ [] }
-        requires reading { self.old.progress ≡ InFront }
+    // Passes blocks that were read, until their records are enough. Where they give none, it answers what comes behind
+    // them: a block only where there was no memory for it.
+    fn pass_blocks(&mut self) -> Coming
+        requires reading { IsReading self.old.progress }
+        ensures tells { bytes_held self.new.held ≡ [] → Tells (order_in self.new.section) (interfaces_in self.new.section) (bytes_of self.new.blocks) result }
         ensures left { Keeps (left_in S.remaining self.old) (left_in S.remaining self.new) }
         ensures refusal { Stays (refusal_left S.remaining self.old) (refusal_left S.remaining self.new) }
-        ensures passed { PassesOn S.remaining S.notes (source_of self.old) (source_of self.new) }
+        ensures source { source_of self.new ≡ source_of self.old }
+        ensures progress { self.new.progress ≡ self.old.progress }
         ensures failures { failures_of self.new ≡ failures_of self.old }
     {
-        if !self.block.fill_to(&mut self.source, FRONT)? {
-            return self.end();
-        }
-        match Front::of(self.section.order(), self.block.bytes()) {
-            Ok(front) => self.enter(front),
-            Err(reason) => self.refuse(reason),
+        loop {
+            let coming = self.coming();
+            let Coming::Block(front, turn) = coming else {
+                return coming;
+            };
+            if self.go(front, &turn).is_err() || self.held.len() >= ENOUGH {
+                return coming;
+            }
         }
     }
 
-    // Ends where fewer bytes are left than the front of a block has.
+    // Ends where no bytes follow, or refuses a block that is cut.
     fn end(&mut self) -> io::Result<()>
         requires none { bytes_held self.old.held ≡ [] }
-        requires reading { self.old.progress ≡ InFront }
-        requires few { length (bytes_of self.old.block) < 12 }
+        requires reading { IsReading self.old.progress }
+        requires cut { IsCut (order_in self.old.section) (interfaces_in self.old.section) (bytes_of self.old.blocks) }
         requires at_end { IsAtEnd (S.remaining self.old.source) }
         ensures left { Keeps (left_in S.remaining self.old) (left_in S.remaining self.new) }
         ensures refusal { Stays (refusal_left S.remaining self.old) (refusal_left S.remaining self.new) }
         ensures source { source_of self.new ≡ source_of self.old }
         ensures failures { failures_of self.new ≡ failures_of self.old }
     {
-        if self.block.bytes().is_empty() {
+        if self.blocks.bytes().is_empty() {
             self.progress = Progress::Ended(None);
             Ok(())
         } else {
@@ -239,46 +253,47 @@ impl<S: Source> Classic<S> {
         }
     }
 
-    // Goes on behind the front of a block.
-    #[inline(always)]
-    fn enter(&mut self, front: Front) -> io::Result<()>
+    // Reads once where so many bytes are wanted, and ends where none come.
+    fn read_on(&mut self, wanted: usize) -> io::Result<()>
         requires none { bytes_held self.old.held ≡ [] }
-        requires reading { self.old.progress ≡ InFront }
-        requires front { front_of (order_in self.old.section) (bytes_of self.old.block) ≡ Ok front }
-        requires whole { length (bytes_of self.old.block) ≡ 12 }
-        requires least { (12 ≤ front.len) × (least_length front.kind ≤ front.len) }
-        ensures left { Keeps (left_in S.remaining self.old) (left_in S.remaining self.new) }
-        ensures refusal { Stays (refusal_left S.remaining self.old) (refusal_left S.remaining self.new) }
-        ensures source { source_of self.new ≡ source_of self.old }
-        ensures failures { failures_of self.new ≡ failures_of self.old }
-    {
-        if self.block.make_room(front.len).is_err() {
-            return Err(self.memory_refused());
-        }
-        self.progress = Progress::InBlock(front);
-        Ok(())
-    }
-
-    // Reads a block behind its front.
-    fn read_block(&mut self, front: Front) -> io::Result<()>
-        requires none { bytes_held self.old.held ≡ [] }
-        requires reading { self.old.progress ≡ InBlock front }
+        requires reading { IsReading self.old.progress }
+        requires wanted { Tells (order_in self.old.section) (interfaces_in self.old.section) (bytes_of self.old.blocks) (Wanted wanted) }
         ensures left { Keeps (left_in S.remaining self.old) (left_in S.remaining self.new) }
         ensures refusal { Stays (refusal_left S.remaining self.old) (refusal_left S.remaining self.new) }
         ensures passed { PassesOn S.remaining S.notes (source_of self.old) (source_of self.new) }
         ensures failures { failures_of self.new ≡ failures_of self.old }
     {
-        if !self.block.fill_to(&mut self.source, front.len)? {
-            return self.refuse(Reason::Cut);
+        let most = wanted.max(BUFFER);
+        if self.blocks.make_room(most).is_err() {
+            return Err(self.memory_refused());
         }
-        match turn_of(self.section.interfaces(), front, self.block.bytes()) {
-            Ok(turn) => self.go(front, &turn),
-            Err(reason) => self.refuse(reason),
+        match self.blocks.read(&mut self.source, most)? {
+            0 => self.end(),
+            _ => Ok(()),
+        }
+    }
+
+    // Passes the blocks that were read; where they give nothing, it reads on, or ends.
+    fn advance(&mut self) -> io::Result<()>
+        requires none { bytes_held self.old.held ≡ [] }
+        requires reading { IsReading self.old.progress }
+        ensures left { Keeps (left_in S.remaining self.old) (left_in S.remaining self.new) }
+        ensures refusal { Stays (refusal_left S.remaining self.old) (refusal_left S.remaining self.new) }
+        ensures passed { PassesOn S.remaining S.notes (source_of self.old) (source_of self.new) }
+        ensures failures { failures_of self.new ≡ failures_of self.old }
+    {
+        let coming = self.pass_blocks();
+        if !self.held.is_empty() {
+            return Ok(());
+        }
+        match coming {
+            Coming::Block(..) => Err(self.memory_refused()),
+            Coming::Refused(reason) => self.refuse(reason),
+            Coming::Wanted(wanted) => self.read_on(wanted),
         }
     }
 
     // Reads on until there is something to give, or nothing is left.
-    #[inline(always)]
     fn prepare(&mut self) -> io::Result<()>
         ensures ready { OnOk result (bytes_held self.new.held ≡ [] → HasEnded self.new.progress) }
         ensures left { Keeps (left_in S.remaining self.old) (left_in S.remaining self.new) }
@@ -291,8 +306,7 @@ impl<S: Source> Classic<S> {
                 return Ok(());
             }
             match self.progress {
-                Progress::InFront => self.read_front()?,
-                Progress::InBlock(front) => self.read_block(front)?,
+                Progress::Going => self.advance()?,
                 Progress::Ended(_) => return Ok(()),
             }
         }

@@ -9,6 +9,7 @@ ghost use Rattle.seatmelon_pcapng.specs.Giving.{Gives, noted_by, told_as};
 ghost use Rattle.seatmelon_pcapng.specs.Readings.{Packet, classic_of, reading_of};
 ghost use Rattle.seatmelon_pcapng.specs.declared.capture.Capture.{Capture};
 ghost use Rattle.seatmelon_pcapng.specs.declared.classic.Classic.{Classic};
+ghost use Rattle.seatmelon_pcapng.specs.declared.format.Format.TheVariants.{Pcapng};
 ghost use Rattle.seatmelon_pcapng.specs.declared.refusal.Refusal.{Refusal};
 
 use rasta_pcap::Source;
@@ -49,14 +50,14 @@ pub fn told_capture_is_noted<S: Source>()
         → formats.Gives S.remaining S.notes c file given }
 {}
 
-/// Once all was given, the refusal that such a capture has met is that of the file, or none where that has none.
-pub fn refusal_is_of_the_capture<S: Source>()
+/// Once all was given, the format that such a capture tells is that of the file, with the refusal that the file has.
+pub fn format_is_of_the_file<S: Source>()
     ensures { (c : Capture S) (file given : List ℕ) → formats.noted_by S.remaining S.notes c (told_as file ++ given)
-        → IsAtEnd (formats.left_in S.remaining c) → formats.refusal_in c ≡ formats.refusal_of file }
+        → IsAtEnd (formats.left_in S.remaining c) → formats.format_in c ≡ formats.format_of file }
 {}
 
 /// A refusal that it has met is that of the file, whatever is left to be given.
 pub fn met_refusal_is_of_the_capture<S: Source>()
     ensures { (c : Capture S) (file given : List ℕ) (refusal : Refusal) → formats.noted_by S.remaining S.notes c (told_as file ++ given)
-        → formats.refusal_in c ≡ Some refusal → formats.refusal_of file ≡ Some refusal }
+        → formats.format_in c ≡ Pcapng (Some refusal) → formats.format_of file ≡ Pcapng (Some refusal) }
 {}

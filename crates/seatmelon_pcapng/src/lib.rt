@@ -4,6 +4,8 @@
 mod block;
 mod capture;
 mod classic;
+mod coming;
+mod format;
 mod front;
 mod interface;
 pub mod laws;
@@ -16,6 +18,7 @@ mod time;
 
 pub use capture::Capture;
 pub use classic::Classic;
+pub use format::Format;
 pub use front::is_pcapng;
 pub use peeked::Peeked;
 pub use refusal::{Reason, Refusal};

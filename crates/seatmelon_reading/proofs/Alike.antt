@@ -1,12 +1,12 @@
 -- Nothing of the first 12 bytes of a frame is read: frames that are alike from there on are read alike.
-use Rattle.std.proofs.Common.{◌≡◌, ◌∙◌, ℕ, ◌+◌, ◌-◌, ◌≤◌, List, ◌++◌, length, take, drop, get_or, cond, Bool, true, false, ◌&&◌, ◌||◌, ◌==◌, nat_le, Option, None, Some, Result, Ok, Err, ap, refl, sym, subst, arith}
+use Rattle.std.proofs.Common.{◌≡◌, ◌∙◌, ℕ, ◌+◌, ◌-◌, ◌≤◌, List, length, take, drop, get_or, cond, Bool, true, false, ◌&&◌, ◌||◌, ◌==◌, nat_le, Option, None, Some, Result, Ok, Err, ap, refl, sym, subst, arith}
 use Rattle.std.proofs.lemmas.Bool.Decides.{nat_tests}
 use Rattle.std.proofs.lemmas.List.{drop-drop, drop_at, get_or-drop, length-append, length-drop, length-take-le}
 use Rattle.byteorder.specs.Endian.{big_number}
 use Rattle.rasta_pcap.specs.declared.fault.Fault.{Fault}
 use Rattle.rasta_udp.specs.declared.channel.Channel.{Channel}
 use Rattle.rasta_udp.specs.Frame.{Fields, Found, datagram_of, fields_of, found_by, header_length_of, is_tagged, map_found, moved_on, number_at, packet_at, packet_in, untagged_of, without_tag}
-use Rattle.seatmelon_reading.specs.PassedOver.{has_outer_tag, is_behind_tag, is_behind_tags, is_of_channels}
+use Rattle.seatmelon_reading.specs.PassedOver.{has_outer_tag, is_behind_tag, is_of_channels}
 
 -- as long, and the same from byte 12 on
 pub record AreAlike (x y : List ℕ) : Type 0 where

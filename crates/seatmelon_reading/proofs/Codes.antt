@@ -1,5 +1,5 @@
 -- Safety codes that are counted, with one record more.
-use Rattle.std.proofs.Common.{◌≡◌, ◌∙◌, ℕ, suc, ◌+◌, ◌<◌, ◌≤◌, List, [], ◌∷◌, ◌++◌, length, filter, filter_map, cond, Bool, true, false, not, ◌&&◌, nat_eq, nat_le, nat_lt, All, Option, None, Some, Result, Ok, Err, ap, refl, sym, add-zero, append-nil, arith}
+use Rattle.std.proofs.Common.{◌≡◌, ◌∙◌, ℕ, ◌+◌, ◌<◌, ◌≤◌, List, [], ◌∷◌, ◌++◌, length, filter, cond, Bool, true, false, not, ◌&&◌, nat_le, Option, None, Some, Result, Ok, Err, ap, refl, sym, add-zero, append-nil, arith}
 use Rattle.std.proofs.lemmas.Bool.Decides.{nat_tests}
 use Rattle.std.proofs.lemmas.List.Elements.{All-head, All-tail, filter-append, filter_map-append}
 use Rattle.std.specs.List.{cons_option}

@@ -4,10 +4,10 @@ pub mod Filters
 pub mod Moments
 pub mod Neighbours
 pub mod Noted
+pub mod Opened
 pub mod Passing
 pub mod Readings
 pub mod Silences
 pub mod Sorts
 pub mod Stored
-pub mod Summing
 pub mod Told

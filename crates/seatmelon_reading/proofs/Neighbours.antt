@@ -1,7 +1,7 @@
 -- Lists with one element more: their last one, and their neighbours.
-use Rattle.std.proofs.Common.{◌≡◌, ℕ, ◌≤◌, List, [], ◌∷◌, ◌++◌, length, Option, None, Some, ap, refl, arith}
-use Rattle.std.specs.List.{last_or, zip}
-use Rattle.seatmelon_reading.specs.Times.{neighbours, rest_of}
+use Rattle.std.proofs.Common.{◌≡◌, ◌≤◌, List, [], ◌∷◌, ◌++◌, length, Option, None, Some, ap, refl, arith}
+use Rattle.std.specs.List.{last_or}
+use Rattle.seatmelon_reading.specs.Times.{neighbours}
 
 pub last_or-push : {A : Type 0} (o : Option A) (l : List A) (x : A) → last_or o (l ++ x ∷ []) ≡ Some x
 last_or-push o [] x = refl

@@ -14,7 +14,7 @@ use Rattle.rasta_pdu.specs.Params.{Parameters}
 use Rattle.rasta_check.specs.declared.passage.Passage.{Passage}
 use Rattle.rasta_check.specs.Capture.Passages.{passage_of}
 use Rattle.seatmelon_reading.specs.Noted.{AreNotes, Seen, all_seen, count_on, count_with, counts_of, is_before, is_client, is_clients, is_servers, is_behind, is_inside, is_left_out, passage_seen, passed_over, seen_by, seen_in, seen_inside, sighting_of}
-use Rattle.seatmelon_reading.specs.Times.{AreTimes}
+use Rattle.seatmelon_reading.specs.Times.{AreTimes, time_of}
 use Rattle.seatmelon_reading.specs.declared.notes.ChannelCount.{ChannelCount}
 use Rattle.seatmelon_reading.specs.declared.notes.Notes.{Notes}
 use Rattle.seatmelon_reading.specs.declared.notes.Sighting.{Sighting}
@@ -30,6 +30,7 @@ all-none p without records r none =
 
 -- the notes but for the count of records, what is passed over and times
 pub record SameNotes (old new : Notes) : Type 0 where
+  pub untimed : new.zero_is_no_time ≡ old.zero_is_no_time
   pub packets : new.packets ≡ old.packets
   pub channels : new.channels ≡ old.channels
   pub before : new.before ≡ old.before
@@ -37,11 +38,12 @@ pub record SameNotes (old new : Notes) : Type 0 where
 
 pub passed : (p : Parameters) (without : List ℕ) (records : List Captured) (r : Captured) (old new : Notes) → AreNotes p without records old
     → SameNotes old new → new.records ≡ suc (length records) → seen_in p without r ≡ None → new.passed ≡ passed_over p without (records ++ r ∷ [])
-    → AreTimes (records ++ r ∷ []) new.times → AreNotes p without (records ++ r ∷ []) new
+    → AreTimes new.zero_is_no_time (records ++ r ∷ []) new.times → AreNotes p without (records ++ r ∷ []) new
 passed p without records r old new h same next none sorted timed =
     let all = sym (all-none p without records r none) in record {
       read = next ∙ sym (add-one (length records)) ∙ sym (length_push records r);
-      packets = ap (λ v. v.items) same.packets ∙ h.packets ∙ ap (λ l. map sighting_of (filter (is_inside p) l)) all;
+      packets = ap (λ v. v.items) same.packets ∙ h.packets ∙ ap (λ z. map (sighting_of z) (seen_inside p without records)) (sym same.untimed)
+          ∙ ap (λ l. map (sighting_of new.zero_is_no_time) (filter (is_inside p) l)) all;
       channels = same.channels ∙ h.channels ∙ ap (λ l. counts_of (filter (is_inside p) l)) all;
       before = same.before ∙ h.before ∙ ap (λ l. length (filter (is_before p) l)) all;
       behind = same.behind ∙ h.behind ∙ ap (λ l. length (filter (is_behind p) l)) all;
@@ -70,12 +72,17 @@ module _ (p : Parameters) (without : List ℕ) (records : List Captured) (s : Se
   -- the notes after it, as far as they don't depend on where it stands
   pub record Grows (old new : Notes) : Type 0 where
     pub noted : AreNotes p without records old
+    pub untimed : new.zero_is_no_time ≡ old.zero_is_no_time
     pub next : new.records ≡ suc (length records)
     pub passed : new.passed ≡ passed_over p without (records ++ s.captured ∷ [])
-    pub times : AreTimes (records ++ s.captured ∷ []) new.times
+    pub times : AreTimes new.zero_is_no_time (records ++ s.captured ∷ []) new.times
 
   read_next : (old new : Notes) → Grows old new → new.records ≡ length (records ++ s.captured ∷ [])
   read_next old new g = g.next ∙ sym (add-one (length records)) ∙ sym (length_push records s.captured)
+
+  -- the packets so far, as they are told after it
+  packets_so_far : (old new : Notes) → Grows old new → old.packets.items ≡ map (sighting_of new.zero_is_no_time) (seen_inside p without records)
+  packets_so_far old new g = g.noted.packets ∙ ap (λ z. map (sighting_of z) (seen_inside p without records)) (sym g.untimed)
 
   not_inside_before : is_before p s ≡ true → is_inside p s ≡ false
   not_inside_before e = ap (λ b. not b && nat_le s.captured.number p.last_record) e
@@ -88,7 +95,7 @@ module _ (p : Parameters) (without : List ℕ) (records : List Captured) (s : Se
   before_window old new g packets channels before behind e =
       let inside = sym (without_it (is_inside p) (not_inside_before e)) in record {
         read = read_next old new g;
-        packets = ap (λ v. v.items) packets ∙ g.noted.packets ∙ ap (map sighting_of) inside;
+        packets = ap (λ v. v.items) packets ∙ packets_so_far old new g ∙ ap (map (sighting_of new.zero_is_no_time)) inside;
         channels = channels ∙ g.noted.channels ∙ ap counts_of inside;
         before = before ∙ ap (λ n. n + 1) g.noted.before ∙ sym (one_more (is_before p) e);
         behind = behind ∙ g.noted.behind ∙ ap length (sym (without_it (is_behind p) (not_behind_before e)));
@@ -102,7 +109,7 @@ module _ (p : Parameters) (without : List ℕ) (records : List Captured) (s : Se
   behind_window old new g packets channels before behind not_before not_inside e =
       let inside = sym (without_it (is_inside p) not_inside) in record {
         read = read_next old new g;
-        packets = ap (λ v. v.items) packets ∙ g.noted.packets ∙ ap (map sighting_of) inside;
+        packets = ap (λ v. v.items) packets ∙ packets_so_far old new g ∙ ap (map (sighting_of new.zero_is_no_time)) inside;
         channels = channels ∙ g.noted.channels ∙ ap counts_of inside;
         before = before ∙ g.noted.before ∙ ap length (sym (without_it (is_before p) not_before));
         behind = behind ∙ ap (λ n. n + 1) g.noted.behind ∙ sym (one_more (is_behind p) e);
@@ -110,13 +117,14 @@ module _ (p : Parameters) (without : List ℕ) (records : List Captured) (s : Se
         times = g.times;
       }
 
-  pub in_window : (old new : Notes) → Grows old new → new.packets.items ≡ old.packets.items ++ sighting_of s ∷ []
+  pub in_window : (old new : Notes) → Grows old new → new.packets.items ≡ old.packets.items ++ sighting_of new.zero_is_no_time s ∷ []
       → new.channels ≡ counts_of (seen_inside p without records ++ s ∷ []) → new.before ≡ old.before → new.behind ≡ old.behind
       → is_before p s ≡ false → is_inside p s ≡ true → is_behind p s ≡ false → AreNotes p without (records ++ s.captured ∷ []) new
   in_window old new g packets channels before behind not_before e not_behind =
       let inside = sym (filtered (is_inside p) true e) in record {
         read = read_next old new g;
-        packets = packets ∙ ap (λ l. l ++ sighting_of s ∷ []) g.noted.packets ∙ sym (map_push sighting_of (seen_inside p without records) s) ∙ ap (map sighting_of) inside;
+        packets = packets ∙ ap (λ l. l ++ sighting_of new.zero_is_no_time s ∷ []) (packets_so_far old new g)
+            ∙ sym (map_push (sighting_of new.zero_is_no_time) (seen_inside p without records) s) ∙ ap (map (sighting_of new.zero_is_no_time)) inside;
         channels = channels ∙ ap counts_of inside;
         before = before ∙ g.noted.before ∙ ap length (sym (without_it (is_before p) not_before));
         behind = behind ∙ g.noted.behind ∙ ap length (sym (without_it (is_behind p) not_behind));
@@ -242,9 +250,10 @@ saturated n bound most few = omega arith
 
 module _ (p : Parameters) (without : List ℕ) (records : List Captured) (s : Seen) (some : seen_in p without s.captured ≡ Some s) (old new : Notes)
     (noted : AreNotes p without records old) (next : new.records ≡ suc (length records)) (few : new.records < 4294967296)
-    (numbered : s.captured.number ≡ new.records) (same : new.passed ≡ old.passed) (timed : AreTimes (records ++ s.captured ∷ []) new.times) where
+    (numbered : s.captured.number ≡ new.records) (same : new.passed ≡ old.passed) (untimed : new.zero_is_no_time ≡ old.zero_is_no_time)
+    (timed : AreTimes new.zero_is_no_time (records ++ s.captured ∷ []) new.times) where
   grows : Grows p without records s some old new
-  grows = record { noted = noted; next = next; passed = same ∙ noted.passed ∙ sym (passed_over-seen p without records s.captured s some); times = timed }
+  grows = record { noted = noted; untimed = untimed; next = next; passed = same ∙ noted.passed ∙ sym (passed_over-seen p without records s.captured s some); times = timed }
 
   one_counted_more : (n : ℕ) (test : Seen → Bool) → n ≡ length (filter test (all_seen p without records)) → min (n + 1) 18446744073709551615 ≡ n + 1
   one_counted_more n test is = (let most = filtered_bound p without records test in saturated n (length records) (omega (arith, is, most)) (omega (arith, next, few)))
@@ -264,7 +273,7 @@ module _ (p : Parameters) (without : List ℕ) (records : List Captured) (s : Se
       (ap (λ b. not (is_before p s) && b) not_inside ∙ ap (λ b. not b && false) not_before)
       (ap (λ b. not (is_before p s) && not b) not_inside ∙ ap (λ b. not b && true) not_before)
 
-  pub noted_inside : new.packets.items ≡ old.packets.items ++ sighting_of s ∷ [] → new.channels ≡ counts_of (seen_inside p without records ++ s ∷ [])
+  pub noted_inside : new.packets.items ≡ old.packets.items ++ sighting_of new.zero_is_no_time s ∷ [] → new.channels ≡ counts_of (seen_inside p without records ++ s ∷ [])
       → new.before ≡ old.before → new.behind ≡ old.behind → p.first_record ≤ new.records → new.records ≤ p.last_record
       → AreNotes p without (records ++ s.captured ∷ []) new
   noted_inside packets channels before behind first last =
@@ -281,12 +290,12 @@ inside_bound p without records number next few = (let most = filtered_bound p wi
 abbrev sighting : ℕ → Option CaptureTime → ℕ → Side → Sighting
 sighting number time channel sender = record { «record» = number; time = time; channel = channel; sender = sender }
 
-pub same_sighting : (before : List Sighting) (s : Seen) (number : ℕ) (time : Option CaptureTime) (passage : Passage) → s.captured.number ≡ number
-    → time ≡ Some s.captured.time → passage ≡ passage_of s.packet → before ++ sighting number time passage.channel passage.side ∷ [] ≡ before ++ sighting_of s ∷ []
-same_sighting before s number time passage numbered timed crossed =
+pub same_sighting : (z : Bool) (before : List Sighting) (s : Seen) (number : ℕ) (time : Option CaptureTime) (passage : Passage) → s.captured.number ≡ number
+    → time ≡ time_of z s.captured → passage ≡ passage_of s.packet → before ++ sighting number time passage.channel passage.side ∷ [] ≡ before ++ sighting_of z s ∷ []
+same_sighting z before s number time passage numbered timed crossed =
     ap (λ (g : Sighting). before ++ g ∷ []) (ap (λ n. sighting n time passage.channel passage.side) (sym numbered)
     ∙ ap (λ t. sighting s.captured.number t passage.channel passage.side) timed
-    ∙ ap (λ (x : Passage). sighting s.captured.number (Some s.captured.time) x.channel x.side) crossed)
+    ∙ ap (λ (x : Passage). sighting s.captured.number (time_of z s.captured) x.channel x.side) crossed)
 
 count_at : (seen : List Seen) (place : ℕ) (count d : ChannelCount) → place < 4 → count ≡ get_or (counts_of seen) place d → count ≡ count_on seen (suc place)
 count_at seen zero count d within e = e

@@ -226,6 +226,10 @@ notes_as p q v w records n e f h = subst (λ (x : List ℕ). AreNotes q x record
 next_as : (p q : Parameters) (v w : List ℕ) (standing : Standing) (r : Numbered) → p ≡ q → v ≡ w → after_next p v standing r ≡ after_next q w standing r
 next_as p q v w standing r e f = ap (λ (x : Parameters). after_next x v standing r) e ∙ ap (λ (x : List ℕ). after_next q x standing r) f
 
+-- a time of 0 is none as it was
+same_flag : {old new : Pass} → IsSameBut old new → new.notes.zero_is_no_time ≡ old.notes.zero_is_no_time
+same_flag kept = ap (λ (n : Notes). n.zero_is_no_time) kept.notes
+
 -- what is noted of the next record
 abbrev pub NotesNext : Pass → Pass → Numbered → Option CaptureTime → Type 0
 NotesNext old new r time = (records : List Captured) (q : Captured) → AreNotes old.params old.without.now records old.notes
@@ -236,7 +240,7 @@ module _ (w : Whole) (order : Endianness) (unit : FractionUnit) (count : ℕ) (r
   notes_before = notes_as _ _ _ _ on.done old.notes (sym on.params) (sym on.without) on.noted
 
   true_before : TellsTrue old on.done
-  true_before = true_as _ _ _ _ on.done old.refusal (sym on.params) (sym on.without) on.told
+  true_before = true_as _ _ _ _ _ _ on.done old.refusal (sym on.zero) (sym on.params) (sym on.without) on.told
 
   -- the records so far are those before the next
   before_next : (number : ℕ) → number ≡ count + 1 → AreBefore number on.done
@@ -247,8 +251,9 @@ module _ (w : Whole) (order : Endianness) (unit : FractionUnit) (count : ℕ) (r
 
   pub passed_record : (r : Numbered) (time : Option CaptureTime) (input : Option (List ℕ)) → NextOf order unit count r time rest input
       → standing_in new ≡ after_next old.params old.without.now (standing_in old) r → NotesNext old new r time → TellsNext old new r time
-      → new.params ≡ old.params → new.without.now ≡ old.without.now → StaysOnceRefused old new → (left : List ℕ) × (input ≡ Some left) × IsOnWay w order unit r.0 left new
-  passed_record r time input h standing noted told params without stays =
+      → new.params ≡ old.params → new.without.now ≡ old.without.now → new.notes.zero_is_no_time ≡ old.notes.zero_is_no_time → StaysOnceRefused old new
+      → (left : List ℕ) × (input ≡ Some left) × IsOnWay w order unit r.0 left new
+  passed_record r time input h standing noted told params without untimed stays =
       let c = cursor_at order rest count in
       let entry = next-is_next_entry c r h.is in
       let one : r.0 ≡ count + 1 = ap (λ (n : Numbered). n.0) entry.is in
@@ -259,6 +264,7 @@ module _ (w : Whole) (order : Endianness) (unit : FractionUnit) (count : ℕ) (r
         h.rest,
         h.left,
         record {
+          zero = untimed ∙ on.zero;
           params = params ∙ on.params;
           without = without ∙ on.without;
           done = on.done ++ q ∷ [];
@@ -272,7 +278,7 @@ module _ (w : Whole) (order : Endianness) (unit : FractionUnit) (count : ℕ) (r
               ∙ ap (λ n. on.done ++ captured_from n unit c) less ∙ on.captured;
           noted = notes_as _ _ _ _ (on.done ++ q ∷ []) new.notes on.params on.without
               (noted on.done q notes_before refl (omega (arith, one, on.counted)) h.timed);
-          told = true_as _ _ _ _ (on.done ++ q ∷ []) new.refusal (params ∙ on.params) (without ∙ on.without) (told on.done q notes_before (before_next r.0 one) true_before refl h.timed);
+          told = true_as _ _ _ _ _ _ (on.done ++ q ∷ []) new.refusal (untimed ∙ on.zero) (params ∙ on.params) (without ∙ on.without) (told on.done q notes_before (before_next r.0 one) true_before refl h.timed);
           lower = All-push (λ (x : Captured). x.number < suc r.0) on.done q
               (All-weaker (λ (x : Captured). x.number < suc count) (λ (x : Captured). x.number < suc r.0) (λ x below. omega (arith, one, below)) on.done on.lower)
               (omega arith);
@@ -287,11 +293,12 @@ module _ (w : Whole) (order : Endianness) (unit : FractionUnit) (count : ℕ) (r
   stored_all : captured_from (max_records - count) unit (cursor_at order rest count) ≡ [] → HasCrossed w.params w.without w.captured (crossed_in old.builder) old.refusal
   stored_all none = subst (λ l. HasCrossed w.params w.without l (crossed_in old.builder) old.refusal) (captured_all none) on.stored
 
-  true_all : captured_from (max_records - count) unit (cursor_at order rest count) ≡ [] → ForSome old.refusal (IsTrueOf w.params w.without w.captured)
-  true_all none = λ r e. subst (λ l. IsTrueOf w.params w.without l r) (captured_all none) (on.told r e)
+  true_all : captured_from (max_records - count) unit (cursor_at order rest count) ≡ [] → ForSome old.refusal (IsTrueOf w.zero w.params w.without w.captured)
+  true_all none = λ r e. subst (λ l. IsTrueOf w.zero w.params w.without l r) (captured_all none) (on.told r e)
 
   pub passed_end : next (cursor_at order rest count) ≡ Ok None → IsThrough w old
   passed_end is = record {
+    zero = on.zero;
     standing = sym (end_inside w.without (standing_in old) (left_after w.params count) order rest count is) ∙ on.standing;
     noted = subst (λ l. AreNotes w.params w.without l old.notes) (captured_all (captured_from-end (max_records - count) unit (cursor_at order rest count) is)) on.noted;
     told = true_all (captured_from-end (max_records - count) unit (cursor_at order rest count) is);
@@ -300,12 +307,13 @@ module _ (w : Whole) (order : Endianness) (unit : FractionUnit) (count : ℕ) (r
 
   pub passed_fault : (f : Fault) → next (cursor_at order rest count) ≡ Err f → standing_in new ≡ after_end old.params (standing_in old) f → IsSameBut old new → TellsStill old new f.place → IsThrough w new
   passed_fault f is standing kept still = record {
+    zero = same_flag kept ∙ on.zero;
     standing = standing ∙ ap (λ (p : Parameters). after_end p (standing_in old) f) on.params
         ∙ standing_end w.params w.without (standing_in old) order rest count f is ∙ on.standing;
     noted = subst (λ (n : Notes). AreNotes w.params w.without w.captured n) (sym kept.notes)
         (subst (λ l. AreNotes w.params w.without l old.notes) (captured_all (captured_from-fault (max_records - count) unit (cursor_at order rest count) f is)) on.noted);
-    told = λ r e. subst (λ l. IsTrueOf w.params w.without l r) (captured_all (captured_from-fault (max_records - count) unit (cursor_at order rest count) f is))
-        (true_as _ _ _ _ on.done new.refusal (kept.params ∙ on.params) (kept.without ∙ on.without)
+    told = λ r e. subst (λ l. IsTrueOf w.zero w.params w.without l r) (captured_all (captured_from-fault (max_records - count) unit (cursor_at order rest count) f is))
+        (true_as _ _ _ _ _ _ on.done new.refusal (same_flag kept ∙ on.zero) (kept.params ∙ on.params) (kept.without ∙ on.without)
         (still on.done notes_before (subst (λ n. AreLower n on.done) (sym (fault_place f (count + 1) (next-fault_place (cursor_at order rest count) f is) ∙ add-one count)) on.lower) true_before) r e);
     stored = subst (λ l. HasCrossed w.params w.without l (crossed_in new.builder) new.refusal) (captured_all (captured_from-fault (max_records - count) unit (cursor_at order rest count) f is))
         (stored_end w.params w.without on.done (crossed_in old.builder) (crossed_in new.builder) old.refusal new.refusal f
@@ -318,6 +326,7 @@ module _ (w : Whole) (order : Endianness) (unit : FractionUnit) (count : ℕ) (r
   passed_all all =
       let none : max_records - count ≡ 0 = omega (arith, all) in
       let none_inside : left_after w.params count ≡ 0 = (let within = on.within in omega (arith, all, within)) in record {
+        zero = on.zero;
         standing = sym (none_left w.without (standing_in old) order rest count) ∙ ap (λ n. outcome_left w.without (standing_in old) n order rest count) (sym none_inside) ∙ on.standing;
         noted = subst (λ l. AreNotes w.params w.without l old.notes)
             (captured_all (ap (λ n. captured_from n unit (cursor_at order rest count)) none ∙ captured_from-none_left unit (cursor_at order rest count))) on.noted;
@@ -336,10 +345,11 @@ none_before : (n : ℕ) → n - 0 ≡ n
 none_before n = omega arith
 
 pub begun : (file rest : List ℕ) (order : Endianness) (unit : FractionUnit) (pass : Pass) → IsBegun pass → pass.params.last_record ≤ max_records
-    → opening file ≡ Ok (cursor_at order rest 0) → unit ≡ unit_of order (take 24 file) → IsOnWay (whole_of pass.params pass.without.now file) order unit 0 rest pass
+    → opening file ≡ Ok (cursor_at order rest 0) → unit ≡ unit_of order (take 24 file) → IsOnWay (whole_of pass.notes.zero_is_no_time pass.params pass.without.now file) order unit 0 rest pass
 begun file rest order unit pass h within is told =
     let p = pass.params in
     let c = cursor_at order rest 0 in record {
+      zero = refl;
       params = refl;
       without = refl;
       done = [];
@@ -357,17 +367,18 @@ begun file rest order unit pass h within is told =
     }
 
 pub begun_refused : (file : List ℕ) (f : Fault) (old new : Pass) → IsBegun old → opening file ≡ Err f → standing_in new ≡ after_end old.params (standing_in old) f
-    → IsSameBut old new → TellsStill old new f.place → IsThrough (whole_of old.params old.without.now file) new
+    → IsSameBut old new → TellsStill old new f.place → IsThrough (whole_of old.notes.zero_is_no_time old.params old.without.now file) new
 unfolding after_records
 begun_refused file f old new h is standing kept still =
     let p = old.params in
     let place : f.place ≡ 0 = fault_place f 0 (opening-fault_place file f is) in record {
+      zero = same_flag kept;
       standing = standing ∙ ap (λ s. after_end p s f) h.standing ∙ ap (λ b. cond b (ok (nothing_crossed p)) (Err f)) (from p.last_record f.place (omega (arith, place)))
           ∙ ap (λ (g : captures.Reading). after_reading (nothing_crossed p) (reading_without old.without.now g)) (sym (reading_of-refused p.last_record file f is));
       noted = subst (λ (n : Notes). AreNotes p old.without.now (captured_in file) n) (sym kept.notes)
           (subst (λ l. AreNotes p old.without.now l old.notes) (sym (captured_in-refused file f is)) h.noted);
-      told = λ r e. subst (λ l. IsTrueOf p old.without.now l r) (sym (captured_in-refused file f is))
-          (true_as _ _ _ _ [] new.refusal kept.params kept.without (still [] h.noted (All-nil (λ (x : Captured). x.number < f.place)) (none_refused _ _ _ old.refusal h.standing)) r e);
+      told = λ r e. subst (λ l. IsTrueOf old.notes.zero_is_no_time p old.without.now l r) (sym (captured_in-refused file f is))
+          (true_as _ _ _ _ _ _ [] new.refusal (same_flag kept) kept.params kept.without (still [] h.noted (All-nil (λ (x : Captured). x.number < f.place)) (none_refused _ _ _ old.refusal h.standing)) r e);
       stored = subst (λ l. HasCrossed p old.without.now l (crossed_in new.builder) new.refusal) (sym (captured_in-refused file f is))
           (stored_end p old.without.now [] (crossed_in old.builder) (crossed_in new.builder) old.refusal new.refusal f (All-nil (λ (x : Captured). x.number < f.place))
           (stored_begun p old.without.now (crossed_in old.builder) old.refusal h.standing) standing kept.stays);
@@ -402,14 +413,14 @@ pub reader_record : (w : Whole) (old new : RecordReader) (before after : Option 
     → ReadsRecord (order_in old) (count_in old) (number, bytes) before after → TellsTime (order_in old) (unit_in old) time before after
     → order_in new ≡ order_in old → unit_in new ≡ unit_in old → count_in new ≡ number
     → standing_in passed ≡ after_next pass.params pass.without.now (standing_in pass) (number, bytes) → NotesNext pass passed (number, bytes) time
-    → TellsNext pass passed (number, bytes) time → passed.params ≡ pass.params → passed.without.now ≡ pass.without.now → StaysOnceRefused pass passed
-    → ReaderOnWay w old before pass → ReaderOnWay w new after passed
-reader_record w old new before after pass passed number bytes time read tells order unit count standing noted told params without stays on =
+    → TellsNext pass passed (number, bytes) time → passed.params ≡ pass.params → passed.without.now ≡ pass.without.now
+    → passed.notes.zero_is_no_time ≡ pass.notes.zero_is_no_time → StaysOnceRefused pass passed → ReaderOnWay w old before pass → ReaderOnWay w new after passed
+reader_record w old new before after pass passed number bytes time read tells order unit count standing noted told params without untimed stays on =
     let r : Numbered = (number, bytes) in
     let reads = subst (λ (o : Option (List ℕ)). ReadsRecord (order_in old) (count_in old) r o after) on.1 read in
     let times = subst (λ (o : Option (List ℕ)). TellsTime (order_in old) (unit_in old) time o after) on.1 tells in
     let step = passed_record w (order_in old) (unit_in old) (count_in old) on.0 pass passed on.2 r time after
-    (known_record (order_in old) (unit_in old) (count_in old) r time on.0 after reads times) standing noted told params without stays in
+    (known_record (order_in old) (unit_in old) (count_in old) r time on.0 after reads times) standing noted told params without untimed stays in
     (step.0, step.1, on_way_as w (order_in old) (order_in new) (unit_in old) (unit_in new) number (count_in new) step.0 passed order unit count step.2)
 
 pub reader_number : (order : Endianness) (count number : ℕ) (bytes : List ℕ) (before after : Option (List ℕ)) → ReadsRecord order count (number, bytes) before after
@@ -442,7 +453,7 @@ reader_all w old before pass all on = passed_all w (order_in old) (unit_in old) 
 -- after the header
 pub reader_begun : (file : List ℕ) (records : RecordReader) (after : Option (List ℕ)) (pass : Pass) → IsBegun pass → pass.params.last_record ≤ max_records
     → Opens (order_in records) (Some file) after → TellsUnit (order_in records) (unit_in records) (Some file) after → count_in records ≡ 0
-    → ReaderOnWay (whole_of pass.params pass.without.now file) records after pass
+    → ReaderOnWay (whole_of pass.notes.zero_is_no_time pass.params pass.without.now file) records after pass
 reader_begun file records after pass h within opens tells none =
     let header = known_header (order_in records) (unit_in records) file after opens tells in (
       header.rest,
@@ -453,7 +464,7 @@ reader_begun file records after pass h within opens tells none =
 
 pub reader_refused : (file : List ℕ) (f : Fault) (most old_count new_count : ℕ) (after : Option (List ℕ)) (old new : Pass)
     → FailsWithin most f old_count new_count (Some file) after ⊎ RefusesHeader f (Some file) after → f ≢ read_failed
-    → standing_in new ≡ after_end old.params (standing_in old) f → IsSameBut old new → TellsStill old new f.place → IsBegun old → IsThrough (whole_of old.params old.without.now file) new
+    → standing_in new ≡ after_end old.params (standing_in old) f → IsSameBut old new → TellsStill old new f.place → IsBegun old → IsThrough (whole_of old.notes.zero_is_no_time old.params old.without.now file) new
 reader_refused file f most old_count new_count after old new (inl failed) read standing kept still h = absurd (read failed.0)
 reader_refused file f most old_count new_count after old new (inr refuses) read standing kept still h =
     begun_refused file f old new h (known_header_refusal f file after refuses) standing kept still
@@ -488,7 +499,7 @@ pub capture_read : {A : Type 0} (input after : Option (List ℕ)) (records : Rec
 capture_read None after records result old new within opens tells none read = tt
 capture_read (Some file) after records (Err f) old new within opens tells none read = tt
 capture_read (Some file) after records (Ok x) old new within opens tells none read =
-    λ h. read (whole_of old.params old.without.now file) (reader_begun file records after old h within opens tells none)
+    λ h. read (whole_of old.notes.zero_is_no_time old.params old.without.now file) (reader_begun file records after old h within opens tells none)
 
 pub capture_refused : {A : Type 0} (input after : Option (List ℕ)) (f : Fault) (most old_count new_count : ℕ) (result : Result A Fault) (old new : Pass)
     → FailsWithin most f old_count new_count input after ⊎ RefusesHeader f input after → OnOk result ((f ≢ no_memory) × (f ≢ read_failed))

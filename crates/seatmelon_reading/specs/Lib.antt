@@ -1,5 +1,6 @@
 pub mod Codes
 pub mod Noted
+pub mod Opened
 pub mod PassedOver
 pub mod Passing
 pub mod Reading

@@ -11,7 +11,7 @@ use Rattle.rasta_check.specs.declared.passage.Passage.{Passage}
 use Rattle.rasta_check.specs.Capture.Passages.{passage_of}
 use Rattle.seatmelon_reading.specs.declared.notes.ChannelCount.{ChannelCount}
 use Rattle.seatmelon_reading.specs.PassedOver.{is_for, why_by}
-use Rattle.seatmelon_reading.specs.Times.{AreTimes}
+use Rattle.seatmelon_reading.specs.Times.{AreTimes, time_of}
 use Rattle.seatmelon_reading.specs.declared.notes.Notes.{Notes}
 use Rattle.seatmelon_reading.specs.declared.notes.Sighting.{Sighting}
 use Rattle.seatmelon_reading.specs.declared.passed_over.PassedOver.{PassedOver}
@@ -62,8 +62,8 @@ abbrev pub seen_inside : Parameters → List ℕ → List Captured → List Seen
 seen_inside p without records = filter (is_inside p) (all_seen p without records)
 
 -- record, time, channel and sender of a packet
-abbrev pub sighting_of : Seen → Sighting
-sighting_of s = record { «record» = s.captured.number; time = Some s.captured.time; channel = s.packet.channel; sender = s.packet.side }
+abbrev pub sighting_of : Bool → Seen → Sighting
+sighting_of zero s = record { «record» = s.captured.number; time = time_of zero s.captured; channel = s.packet.channel; sender = s.packet.side }
 
 abbrev pub is_client : Side → Bool
 is_client Client = true
@@ -104,6 +104,7 @@ passed_over p without records = record {
 
 -- what is noted but for the packets in the window
 pub record SameOutside (old new : Notes) : Type 0 where
+  pub untimed : new.zero_is_no_time ≡ old.zero_is_no_time
   pub read : new.records ≡ old.records
   pub before : new.before ≡ old.before
   pub behind : new.behind ≡ old.behind
@@ -113,9 +114,9 @@ pub record SameOutside (old new : Notes) : Type 0 where
 -- these are the notes of the records so far
 pub record AreNotes (p : Parameters) (without : List ℕ) (records : List Captured) (n : Notes) : Type 0 where
   pub read : n.records ≡ length records
-  pub packets : n.packets.items ≡ map sighting_of (seen_inside p without records)
+  pub packets : n.packets.items ≡ map (sighting_of n.zero_is_no_time) (seen_inside p without records)
   pub channels : n.channels ≡ counts_of (seen_inside p without records)
   pub before : n.before ≡ length (filter (is_before p) (all_seen p without records))
   pub behind : n.behind ≡ length (filter (is_behind p) (all_seen p without records))
   pub passed : n.passed ≡ passed_over p without records
-  pub times : AreTimes records n.times
+  pub times : AreTimes n.zero_is_no_time records n.times

@@ -17,15 +17,16 @@ use Rattle.seatmelon_reading.specs.Reading.{HasCrossed, crossing_without, readin
 use Rattle.seatmelon_reading.specs.Told.{AreLower, IsTrueOf}
 use Rattle.seatmelon_reading.specs.declared.pass.Pass.{Pass}
 
--- what is to be read: by these parameters, without these records, what crosses, and what was captured
+-- what is to be read: whether a time of 0 is none, by these parameters, without these records, what crosses, and what was captured
 pub record Whole : Type 0 where
+  pub zero : Bool
   pub params : Parameters
   pub without : List ℕ
   pub crossed : Result Crossing Fault
   pub captured : List Captured
 
-abbrev pub whole_of : Parameters → List ℕ → List ℕ → Whole
-whole_of p without file = record { params = p; without = without; crossed = crossing_without p without file; captured = captured_in file }
+abbrev pub whole_of : Bool → Parameters → List ℕ → List ℕ → Whole
+whole_of zero p without file = record { zero = zero; params = p; without = without; crossed = crossing_without p without file; captured = captured_in file }
 
 -- what crosses by at most so many more records, where this stands so far
 abbrev pub outcome_left : List ℕ → Result Crossing Fault → ℕ → Endianness → List ℕ → ℕ → Result Crossing Fault
@@ -34,6 +35,7 @@ outcome_left without (Ok k) left order rest count = after_reading k (reading_wit
 
 -- after so many records: what crosses by the whole file crosses by the rest, and what is noted is noted of the records so far
 pub record IsOnWay (w : Whole) (order : Endianness) (unit : FractionUnit) (count : ℕ) (rest : List ℕ) (pass : Pass) : Type 0 where
+  pub zero : pass.notes.zero_is_no_time ≡ w.zero
   pub params : pass.params ≡ w.params
   pub without : pass.without.now ≡ w.without
   pub done : List Captured
@@ -42,16 +44,17 @@ pub record IsOnWay (w : Whole) (order : Endianness) (unit : FractionUnit) (count
   pub standing : outcome_left w.without (standing_in pass) (w.params.last_record - count) order rest count ≡ w.crossed
   pub captured : done ++ captured_from (max_records - count) unit (cursor_at order rest count) ≡ w.captured
   pub noted : AreNotes w.params w.without done pass.notes
-  pub told : ForSome pass.refusal (IsTrueOf w.params w.without done)
+  pub told : ForSome pass.refusal (IsTrueOf w.zero w.params w.without done)
   pub lower : AreLower (suc count) done
   pub stored : HasCrossed w.params w.without done (crossed_in pass.builder) pass.refusal
   pub refused : ForSome pass.refusal (λ r. r.fault.place ≤ count)
 
 -- at the end
 pub record IsThrough (w : Whole) (pass : Pass) : Type 0 where
+  pub zero : pass.notes.zero_is_no_time ≡ w.zero
   pub standing : standing_in pass ≡ w.crossed
   pub noted : AreNotes w.params w.without w.captured pass.notes
-  pub told : ForSome pass.refusal (IsTrueOf w.params w.without w.captured)
+  pub told : ForSome pass.refusal (IsTrueOf w.zero w.params w.without w.captured)
   pub stored : HasCrossed w.params w.without w.captured (crossed_in pass.builder) pass.refusal
 
 -- the input is known, and a reader stands so on the way
@@ -79,4 +82,4 @@ pub record IsBegun (pass : Pass) : Type 0 where
 
 -- a file was passed
 abbrev pub IsPassed : List ℕ → Pass → Pass → Type 0
-IsPassed file old new = IsBegun old → IsThrough (whole_of old.params old.without.now file) new
+IsPassed file old new = IsBegun old → IsThrough (whole_of old.notes.zero_is_no_time old.params old.without.now file) new

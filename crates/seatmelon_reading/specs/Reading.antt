@@ -11,6 +11,8 @@ use Rattle.rasta_pdu.specs.Params.{Parameters}
 use Rattle.rasta_check.specs.Capture.Building.{crossed_in}
 use Rattle.rasta_check.specs.Capture.Reading.{Crossing, after_reading, after_record, after_records, nothing_crossed}
 use Rattle.seatmelon_capture.specs.Header.{header_in}
+use Rattle.seatmelon_pcapng.specs.Formats.{capture_of, format_of}
+use Rattle.seatmelon_pcapng.specs.Peeked.{begins_pcapng}
 use Rattle.seatmelon_reading.specs.Noted.{AreNotes, is_left_out}
 use Rattle.seatmelon_reading.specs.declared.capture_refusal.CaptureRefusal.{CaptureRefusal}
 use Rattle.seatmelon_reading.specs.declared.pass.Pass.{Pass}
@@ -83,14 +85,16 @@ HasCrossed p without records k (Some r) = HaveCrossed p without (records_before 
 
 -- ---- the whole
 
--- this was read of a file
+-- this was read of a file: of its capture, which is the file itself or that of a pcapng file, and of the file as it is
 pub record IsReading (p : Parameters) (without file : List ℕ) (r : Reading) : Type 0 where
-  pub crossed : standing_with r.store r.refusal ≡ crossing_without p without file
-  pub stored : HasCrossed p without (captured_in file) r.store r.refusal
-  pub noted : AreNotes p without (captured_in file) r.notes
-  pub told : ForSome r.refusal (IsTrueOf p without (captured_in file))
+  pub crossed : standing_with r.store r.refusal ≡ crossing_without p without (capture_of file)
+  pub stored : HasCrossed p without (captured_in (capture_of file)) r.store r.refusal
+  pub noted : AreNotes p without (captured_in (capture_of file)) r.notes
+  pub untimed : r.notes.zero_is_no_time ≡ begins_pcapng file
+  pub told : ForSome r.refusal (IsTrueOf (begins_pcapng file) p without (captured_in (capture_of file)))
   pub summed : r.digest ≡ sha256 file
   pub header : r.header ≡ header_in (take 24 file)
+  pub format : r.format ≡ format_of file
 
 -- it tells a fault, which is no lack of memory and no failed read
 abbrev pub TellsFault : Option CaptureRefusal → Type 0

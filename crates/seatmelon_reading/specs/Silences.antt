@@ -1,5 +1,5 @@
 -- The longest silence of an end.
-use Rattle.std.specs.Prelude.{◌≡◌, ℕ, ◌+◌, ◌-◌, ◌*◌, ◌<◌, ◌≤◌, List, [], ◌∷◌, ◌++◌, length, map, filter, All, Bool, true, false, Option, None, Some}
+use Rattle.std.specs.Prelude.{◌≡◌, ℕ, ◌+◌, ◌-◌, ◌*◌, ◌<◌, ◌≤◌, List, [], ◌∷◌, ◌++◌, length, map, filter, All, Bool, true, false, Option, None, Some, is_none}
 use Rattle.std.specs.List.{last_or}
 use Rattle.rasta_pcap.specs.declared.fault.Side.{Side}
 use Rattle.rasta_pcap.specs.declared.fault.Side.TheVariants.{Client, Server}
@@ -19,6 +19,10 @@ is_side side other = false
 -- the packets of an end, in order
 abbrev pub sent_by : Side → List Sighting → List Sighting
 sent_by side packets = filter (λ (s : Sighting). is_side side s.sender) packets
+
+-- the packet has no time
+abbrev pub is_untimed : Sighting → Bool
+is_untimed s = is_none s.time
 
 -- how many nanoseconds one of this unit has
 abbrev pub nanoseconds_each : FractionUnit → ℕ

@@ -1,5 +1,5 @@
 -- What a refusal tells of the records so far.
-use Rattle.std.specs.Prelude.{◌≡◌, ℕ, suc, ◌<◌, List, [], ◌∷◌, ◌++◌, length, map, All, false, Option, Some}
+use Rattle.std.specs.Prelude.{◌≡◌, ℕ, suc, ◌<◌, List, [], ◌∷◌, ◌++◌, length, map, All, Bool, true, false, Option, Some}
 use Rattle.std.specs.List.{Contains}
 use Rattle.std.specs.Option.{ForSome}
 use Rattle.rasta_pcap.specs.declared.fault.Fault.{Fault}
@@ -9,6 +9,7 @@ use Rattle.rasta_pcap.specs.Captured.{Captured, numbered}
 use Rattle.rasta_pdu.specs.Params.{Parameters}
 use Rattle.seatmelon_reading.specs.Codes.{codes_from, own_codes}
 use Rattle.seatmelon_reading.specs.Noted.{AreNotes, is_left_out, seen_inside, sighting_of}
+use Rattle.seatmelon_reading.specs.Times.{is_time, time_told}
 use Rattle.seatmelon_reading.specs.declared.capture_refusal.CaptureRefusal.{CaptureRefusal}
 use Rattle.seatmelon_reading.specs.declared.notes.Notes.{Notes}
 use Rattle.seatmelon_reading.specs.declared.notes.Sighting.{Sighting}
@@ -23,15 +24,16 @@ pub record IsCapturedAt (records : List Captured) (r : CaptureRefusal) (time : C
   pub held : captured.bytes ≡ r.frame.items
 
 -- a packet of the connection stands so among these records
-abbrev pub IsSighted : Parameters → List ℕ → List Captured → Sighting → Type 0
-IsSighted p without records sighting = Contains (map sighting_of (seen_inside p without records)) sighting
+abbrev pub IsSighted : Bool → Parameters → List ℕ → List Captured → Sighting → Type 0
+IsSighted zero p without records sighting = Contains (map (sighting_of zero) (seen_inside p without records)) sighting
 
--- A time that is told of the refused record is that of the captured record with its number, what is told beside it is a
--- packet of the connection, and the safety codes that are counted are those of the packets of the connection from the
--- record of the fault on.
-pub record IsTrueOf (p : Parameters) (without : List ℕ) (records : List Captured) (r : CaptureRefusal) : Type 0 where
+-- A time that is told of the refused record is one, and that of the captured record with its number; what is told beside
+-- it is a packet of the connection, and the safety codes that are counted are those of the packets of the connection from
+-- the record of the fault on.
+pub record IsTrueOf (zero : Bool) (p : Parameters) (without : List ℕ) (records : List Captured) (r : CaptureRefusal) : Type 0 where
   pub timed : ForSome r.time (IsCapturedAt records r)
-  pub beside : ForSome r.beside (λ b. IsSighted p without records b.sighting)
+  pub genuine : ForSome r.time (λ t. is_time zero t ≡ true)
+  pub beside : ForSome r.beside (λ b. IsSighted zero p without records b.sighting)
   pub codes : r.codes ≡ codes_from p r.fault.place (seen_inside p without records)
 
 -- ---- on the way
@@ -40,12 +42,12 @@ pub record IsTrueOf (p : Parameters) (without : List ℕ) (records : List Captur
 pub record IsMadeOf (p : Parameters) (f : Fault) (bytes : List ℕ) (captured : Option CaptureTime) (notes : Notes) (r : CaptureRefusal) : Type 0 where
   pub fault : r.fault ≡ f
   pub frame : r.frame.items ≡ bytes
-  pub time : r.time ≡ captured
+  pub time : r.time ≡ time_told notes.zero_is_no_time captured
   pub beside : ForSome r.beside (λ b. Contains notes.packets.items b.sighting)
   pub codes : r.codes ≡ own_codes p bytes captured
 
 abbrev pub TellsTrue : Pass → List Captured → Type 0
-TellsTrue pass records = ForSome pass.refusal (IsTrueOf pass.params pass.without.now records)
+TellsTrue pass records = ForSome pass.refusal (IsTrueOf pass.notes.zero_is_no_time pass.params pass.without.now records)
 
 -- each of these records has a lower number
 abbrev pub AreLower : ℕ → List Captured → Type 0

@@ -8,6 +8,7 @@ ghost use Rattle.seatmelon_reading.specs.Codes.{codes_next};
 
 use crate::code_count::CodeCount;
 use crate::notes::{Notes, Sighting};
+use crate::times::time_told;
 use rasta_check::{SentList, SpanList, Store};
 use rasta_pcap::{CaptureTime, Fault, Record, Side};
 use rasta_pdu::{Params, decode};
@@ -36,7 +37,7 @@ pub struct CaptureRefusal {
     /// The bytes of the refused record, as far as they were read.
     pub frame: Vec<u8>,
 
-    /// When the refused record was captured, if it was read whole.
+    /// When the refused record was captured, if it was read whole and has a time.
     pub time: Option<CaptureTime>,
 
     /// The safety codes of the packets of the connection from the refused one on.
@@ -127,7 +128,7 @@ fn packet_beside(
 impl CaptureRefusal {
     ghost use Rattle.seatmelon_reading.specs.Told.{IsMadeOf};
 
-    /// Of a record with these bytes, which was captured at this time, after what crossed before it.
+    /// Of a record with these bytes, of which this time was read, if it was read whole, after what crossed before it.
     ///
     /// Refused by [`Fault::NO_MEMORY`] alone.
     pub fn new(
@@ -148,7 +149,7 @@ impl CaptureRefusal {
         let mut refusal = CaptureRefusal {
             fault,
             frame: copied(alloc, frame)?,
-            time,
+            time: time_told(notes.zero_is_no_time, time),
             codes: CodeCount::of_record(params, frame, time),
             next_number: next,
             beside: None,

@@ -19,6 +19,6 @@ pub use code_count::CodeCount;
 pub use notes::{ChannelCount, Notes, Sighting};
 pub use passed_over::PassedOver;
 pub use reading::{Reading, read_capture};
-pub use silence::{Silence, longest_silence};
+pub use silence::{Silence, count_untimed, longest_silence};
 pub use times::{Noticed, TimeNotes};
 pub use window::{Window, window_in};

@@ -1,5 +1,6 @@
 //! What is noted of a capture's records: how many there are, and where the packets of the connection stand.
 ghost use Rattle.std.specs.Prelude.{◌≡◌, suc, ◌++◌, ◌∷◌, [], ◌<◌, ◌≤◌, ◌⊎◌, ◌^◌, ℕ, List, length, None, Some, IfErr, OnOk};
+ghost use Rattle.seatmelon_reading.specs.Times.{time_of};
 ghost use Rattle.rasta_pcap.specs.Captured.{Captured, numbered};
 ghost use Rattle.rasta_pcap.specs.Fault.{no_memory};
 ghost use Rattle.rasta_pdu.specs.Params.{Parameters};
@@ -8,7 +9,7 @@ ghost use Rattle.seatmelon_reading.specs.Noted.{AreNotes, SameOutside, Seen, cou
 
 use crate::frames::why_passed;
 use crate::passed_over::{PassedOver, WhyPassed};
-use crate::times::TimeNotes;
+use crate::times::{TimeNotes, time_told};
 use crate::window::{Standing, standing_of};
 use rasta_check::Passage;
 use rasta_pcap::{CaptureTime, Fault, Record, Side};
@@ -21,6 +22,7 @@ pub struct Sighting {
     /// The number of its record, from 1.
     pub record: u32,
 
+    /// None where the packet has none.
     pub time: Option<CaptureTime>,
 
     /// The number of its channel, from 1.
@@ -56,6 +58,9 @@ pub struct Notes {
     pub passed: PassedOver,
 
     pub times: TimeNotes,
+
+    /// Whether a time of 0 is none, as in a pcapng file, whose packets may lack one.
+    pub zero_is_no_time: bool,
 }
 
 impl ChannelCount {
@@ -98,8 +103,9 @@ fn count(channels: &mut [ChannelCount; 4], passage: Passage)
 
 impl Notes {
     /// Of no record.
-    pub fn new(alloc: Global) -> Notes
-        ensures { (p : Parameters) (without : List ℕ) → AreNotes p without [] result }
+    pub fn new(alloc: Global, zero_is_no_time: bool) -> Notes
+        ensures noted { (p : Parameters) (without : List ℕ) → AreNotes p without [] result }
+        ensures untimed { result.zero_is_no_time ≡ zero_is_no_time }
     {
         let none = ChannelCount {
             client: 0,
@@ -113,14 +119,16 @@ impl Notes {
             behind: 0,
             passed: PassedOver::NONE,
             times: TimeNotes::NONE,
+            zero_is_no_time,
         }
     }
 
-    // Takes in a record without a packet of the recorded channels, and why.
+    // Takes in a record without a packet of the recorded channels, when it was captured, if it has a time, and why.
     fn pass(&mut self, number: u32, time: Option<CaptureTime>, why: WhyPassed)
-        ensures { (p : Parameters) (without : List ℕ) (records : List Captured) (r : Captured) → AreNotes p without records self.old
-            → r.number ≡ number → number ≡ suc (length records) → time ≡ Some r.time → seen_in p without r ≡ None
+        ensures noted { (p : Parameters) (without : List ℕ) (records : List Captured) (r : Captured) → AreNotes p without records self.old
+            → r.number ≡ number → number ≡ suc (length records) → time ≡ time_of self.old.zero_is_no_time r → seen_in p without r ≡ None
             → why_passed p without r ≡ Some why → AreNotes p without (records ++ r ∷ []) self.new }
+        ensures kept { self.new.zero_is_no_time ≡ self.old.zero_is_no_time }
     {
         self.records = number;
         self.times.add(number, time);
@@ -139,7 +147,7 @@ impl Notes {
         Ok(())
     }
 
-    // Takes in a record, which was captured at this time, and where its packet crossed.
+    // Takes in a record, which was captured at this time, if it has one, and where its packet crossed.
     fn add(
         &mut self,
         params: &Params,
@@ -148,9 +156,10 @@ impl Notes {
         passage: Passage,
     ) -> Result<(), Fault>
         ensures noted { OnOk result ((without : List ℕ) (records : List Captured) (s : Seen) → AreNotes params.now without records self.old
-            → s.captured.number ≡ number → number ≡ suc (length records) → time ≡ Some s.captured.time
+            → s.captured.number ≡ number → number ≡ suc (length records) → time ≡ time_of self.old.zero_is_no_time s.captured
             → seen_in params.now without s.captured ≡ Some s → passage ≡ passage_of s.packet
             → AreNotes params.now without (records ++ s.captured ∷ []) self.new) }
+        ensures kept { self.new.zero_is_no_time ≡ self.old.zero_is_no_time }
         ensures err { IfErr result (λ f. f ≡ no_memory) }
     {
         self.records = number;
@@ -171,8 +180,8 @@ impl Notes {
         Ok(())
     }
 
-    /// Takes in a record, which was captured at this time, and where its packet crossed, if it holds one of the
-    /// recorded channels.
+    /// Takes in a record, of which this time was read, and where its packet crossed, if it holds one of the recorded
+    /// channels.
     pub fn note(
         &mut self,
         params: &Params,
@@ -184,9 +193,11 @@ impl Notes {
         ensures noted { OnOk result ((records : List Captured) (r : Captured) → AreNotes params.now without.now records self.old
             → numbered r ≡ («record».now.number, «record».now.bytes.now) → r.number ≡ suc (length records) → time ≡ Some r.time
             → passage ≡ passage_seen (seen_in params.now without.now r) → AreNotes params.now without.now (records ++ r ∷ []) self.new) }
+        ensures kept { self.new.zero_is_no_time ≡ self.old.zero_is_no_time }
         ensures err { IfErr result (λ f. f ≡ no_memory) }
     {
         let number = record.number;
+        let time = time_told(self.zero_is_no_time, time);
         match passage {
             Some(passage) => self.add(params, number, time, passage),
             None => {

@@ -12,6 +12,7 @@ ghost use Rattle.seatmelon_reading.specs.Noted.{AreNotes, passage_seen, seen_in}
 
 use crate::capture_refusal::CaptureRefusal;
 use crate::notes::{Notes, Sighting};
+use crate::times::time_told;
 use crate::window::{Standing, standing_of};
 use rasta_check::{Passage, StoreBuilder};
 use rasta_pcap::{CaptureTime, Fault, Record};
@@ -70,18 +71,24 @@ impl<'a> Pass<'a> {
     ghost use Rattle.seatmelon_reading.specs.Told.{IsMadeOf, TellsNext, TellsStaying, TellsStill};
 
     /// Before the first record.
-    pub fn new(alloc: Global, params: &Params, without: &'a [u32]) -> Pass<'a>
+    pub fn new(
+        alloc: Global,
+        params: &Params,
+        without: &'a [u32],
+        zero_is_no_time: bool,
+    ) -> Pass<'a>
         ensures params { result.params ≡ params.now }
         ensures without { result.without.now ≡ without.now }
         ensures standing { standing_in result ≡ Ok (nothing_crossed params.now) }
         ensures noted { AreNotes params.now without.now [] result.notes }
+        ensures untimed { result.notes.zero_is_no_time ≡ zero_is_no_time }
     {
         Pass {
             params: *params,
             without,
             builder: StoreBuilder::new(alloc, *params),
             refusal: None,
-            notes: Notes::new(alloc),
+            notes: Notes::new(alloc, zero_is_no_time),
         }
     }
 
@@ -160,7 +167,7 @@ impl<'a> Pass<'a> {
         };
         let sighting = Sighting {
             record: record.number,
-            time,
+            time: time_told(self.notes.zero_is_no_time, time),
             channel: found.channel,
             sender: found.side,
         };
@@ -212,7 +219,7 @@ impl<'a> Pass<'a> {
         self.pass(alloc, record, time)
     }
 
-    /// Takes in the next record, which was captured at this time.
+    /// Takes in the next record, of which this time was read.
     ///
     /// Refused by [`Fault::NO_MEMORY`] alone.
     pub fn add(
@@ -227,7 +234,8 @@ impl<'a> Pass<'a> {
             → numbered r ≡ («record».now.number, «record».now.bytes.now) → r.number ≡ suc (length records) → time ≡ Some r.time
             → AreNotes self.old.params self.old.without.now (records ++ r ∷ []) self.new.notes) }
         ensures told { OnOk result (TellsNext self.old self.new («record».now.number, «record».now.bytes.now) time) }
-        ensures kept { (self.new.params ≡ self.old.params) × (self.new.without.now ≡ self.old.without.now) }
+        ensures kept { (self.new.params ≡ self.old.params) × (self.new.without.now ≡ self.old.without.now)
+            × (self.new.notes.zero_is_no_time ≡ self.old.notes.zero_is_no_time) }
         ensures stays { StaysOnceRefused self.old self.new }
         ensures err { IfErr result (λ f. (f ≡ no_memory) ⊎ (f ≡ read_failed)) }
     {

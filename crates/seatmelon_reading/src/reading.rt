@@ -1,4 +1,4 @@
-//! A capture, read once.
+//! A capture in either format, read once.
 ghost use Rattle.std.specs.Prelude.{◌≡◌, ◌⊎◌, take, IfErr, IfOk, IfSome, OnOk};
 ghost use Rattle.std.specs.Io.KnownBytes.{IsAtEnd};
 ghost use Rattle.rasta_pcap.specs.Fault.{no_memory, read_failed};
@@ -7,6 +7,8 @@ ghost use Rattle.sha2.specs.Sha256.{sha256};
 ghost use Rattle.rasta_pcap.specs.Stream.{count_in, progress_of};
 ghost use Rattle.rasta_pcap.specs.declared.stream.Progress.TheVariants.{Reading as StillReading};
 ghost use Rattle.seatmelon_capture.specs.Header.{header_in};
+ghost use Rattle.seatmelon_pcapng.specs.Formats.{capture_of, format_of};
+ghost use Rattle.seatmelon_reading.specs.Opened.{OnFile, left_behind, noted_behind};
 ghost use Rattle.seatmelon_reading.specs.Passing.{IsPassed, IsThrough, ReaderOnWay, ReadsOnIf, StepsTo, Whole};
 ghost use Rattle.seatmelon_reading.specs.Reading.{IsReading, TellsFault};
 
@@ -19,6 +21,7 @@ use rasta_pcap::stream::RecordReader;
 use rasta_pcap::{Buffered, Fault, Record, Source};
 use rasta_pdu::Params;
 use seatmelon_capture::{FileHeader, Keeping};
+use seatmelon_pcapng::{Capture, Format};
 use std::alloc::Global;
 
 // How many bytes are read at once.
@@ -27,15 +30,16 @@ const BUFFER: usize = 65_536;
 // The most records of a capture.
 const MOST_RECORDS: u32 = 4_000_000_000;
 
-// What is told of a file as a whole: its SHA-256, and its header.
+// What is told of a file as a whole: its SHA-256, its header, and its format.
 #[derive(Clone, Copy)]
 struct FileFacts {
     digest: [u8; 32],
     header: Option<FileHeader>,
+    format: Format,
 }
 
 /// What a capture holds: what crossed by it up to its first fault, that fault, what is noted of its records, and the
-/// SHA-256 and the header of its file.
+/// SHA-256, the header and the format of its file.
 #[derive(Drop)]
 pub struct Reading {
     pub store: Store,
@@ -45,6 +49,9 @@ pub struct Reading {
 
     /// None where the file is shorter than a header, or begins with no magic number.
     pub header: Option<FileHeader>,
+
+    /// In which format the file was read, and why it is refused, if it is a pcapng file that is.
+    pub format: Format,
 }
 
 // Passes the next record of a capture; false where there is none, and where none can be read.
@@ -125,28 +132,67 @@ fn drain<S: Source>(source: &mut S) -> Result<(), Fault>
     Err(Fault::at(Fault::READ_FAILED, 0))
 }
 
-// Passes a capture to the end of its file, and answers the SHA-256 and the header of it.
-fn pass_file<R: Source>(
-    alloc: Global,
-    reader: &mut R,
-    pass: &mut Pass<'_>,
-) -> Result<FileFacts, Fault>
-    ensures read { IfSome (R.remaining reader.old) (λ file. OnOk result (IsPassed file pass.old pass.new)) }
-    ensures summed { IfSome (R.remaining reader.old) (λ file. IfOk result (λ facts. facts.digest ≡ sha256 file)) }
-    ensures header { IfSome (R.remaining reader.old) (λ file. IfOk result (λ facts. facts.header ≡ header_in (take 24 file))) }
+// Passes the capture that a source gives, and reads to the end of it.
+fn pass_whole<S: Source>(alloc: Global, source: &mut S, pass: &mut Pass<'_>) -> Result<(), Fault>
+    ensures passed { PassesOn S.remaining S.notes source.old source.new }
+    ensures read { IfSome (S.remaining source.old) (λ file. OnOk result (IsPassed file pass.old pass.new)) }
+    ensures ended { OnOk result (IsAtEnd (S.remaining source.new)) }
     ensures err { IfErr result (λ f. (f ≡ no_memory) ⊎ (f ≡ read_failed)) }
 {
-    let mut source = Buffered::new(alloc, Keeping::new(Summed::new(reader)), BUFFER)?;
-    pass_capture(alloc, &mut source, pass)?;
+    pass_capture(alloc, source, pass)?;
+    drain(source)
+}
+
+// Passes a capture that was opened over a file, and reads to the end of the file. Answers its format, and gives the
+// source back.
+fn pass_opened<S: Source>(
+    alloc: Global,
+    capture: Capture<S>,
+    pass: &mut Pass<'_>,
+) -> Result<(Format, S), Fault>
+where
+    S: Drop,
+    ensures read { OnFile S.remaining S.notes capture (λ file. OnOk result (IsPassed (capture_of file) pass.old pass.new)) }
+    ensures format { OnFile S.remaining S.notes capture (λ file. IfOk result (λ r. r.0 ≡ format_of file)) }
+    ensures noted { OnFile S.remaining S.notes capture (λ file. IfOk result (λ r. S.notes r.1 file)) }
+    ensures err { IfErr result (λ f. (f ≡ no_memory) ⊎ (f ≡ read_failed)) }
+{
+    let mut buffered = Buffered::new(alloc, capture, BUFFER)?;
+    let passed = pass_whole(alloc, &mut buffered, pass);
+    let capture = buffered.into_inner();
+    if let Err(fault) = passed {
+        return Err(capture.fault_met(fault));
+    }
+    let format = capture.format();
+    let mut source = capture.into_inner();
     drain(&mut source)?;
-    let keeping = source.into_inner();
+    Ok((format, source))
+}
+
+// Passes a capture that was opened over a file, and answers what is told of the file as a whole.
+fn pass_file<S: Source>(
+    alloc: Global,
+    capture: Capture<Keeping<Summed<S>>>,
+    pass: &mut Pass<'_>,
+) -> Result<FileFacts, Fault>
+where
+    S: Drop,
+    ensures read { OnFile (left_behind S.remaining) noted_behind capture (λ file. OnOk result (IsPassed (capture_of file) pass.old pass.new)) }
+    ensures summed { OnFile (left_behind S.remaining) noted_behind capture (λ file. IfOk result (λ facts. facts.digest ≡ sha256 file)) }
+    ensures header { OnFile (left_behind S.remaining) noted_behind capture (λ file. IfOk result (λ facts. facts.header ≡ header_in (take 24 file))) }
+    ensures format { OnFile (left_behind S.remaining) noted_behind capture (λ file. IfOk result (λ facts. facts.format ≡ format_of file)) }
+    ensures err { IfErr result (λ f. (f ≡ no_memory) ⊎ (f ≡ read_failed)) }
+{
+    let (format, keeping) = pass_opened(alloc, capture, pass)?;
     Ok(FileFacts {
+        format,
         header: keeping.header(),
         digest: keeping.into_inner().into_digest(),
     })
 }
 
-/// Reads a capture once, from its first byte to its last, through a buffer.
+/// Reads a capture once, from its first byte to its last, through a buffer. A pcapng file is read as a classic capture of
+/// its packets.
 ///
 /// Refused by [`Fault::NO_MEMORY`] and [`Fault::READ_FAILED`] alone: a fault of the capture is part of what is read.
 pub fn read_capture<R: Source>(
@@ -155,15 +201,20 @@ pub fn read_capture<R: Source>(
     without: &[u32],
     reader: &mut R,
 ) -> Result<Reading, Fault>
-    // Of a file that is known it is told what crossed by it or its first fault, what is noted of its records, its sum and
-    // its header.
+    // Of a file that is known it is told what crossed by its capture or the first fault of that, what is noted of its
+    // records, and the sum, the header and the format of the file.
     ensures read { IfSome (R.remaining reader.old) (λ file. IfOk result (IsReading params.now without.now file)) }
     ensures fault { IfOk result (λ reading. TellsFault reading.refusal) }
     ensures err { IfErr result (λ f. (f ≡ no_memory) ⊎ (f ≡ read_failed)) }
 {
-    let mut pass = Pass::new(alloc, params, without);
-    let facts = pass_file(alloc, reader, &mut pass)?;
-    let FileFacts { digest, header } = facts;
+    let capture = Capture::open(alloc, Keeping::new(Summed::new(reader)))?;
+    let mut pass = Pass::new(alloc, params, without, capture.format().is_pcapng());
+    let facts = pass_file(alloc, capture, &mut pass)?;
+    let FileFacts {
+        digest,
+        header,
+        format,
+    } = facts;
     let Pass {
         builder,
         refusal,
@@ -176,5 +227,6 @@ pub fn read_capture<R: Source>(
         notes,
         digest,
         header,
+        format,
     })
 }

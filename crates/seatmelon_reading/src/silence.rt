@@ -1,6 +1,6 @@
 //! The longest silence of an end.
-ghost use Rattle.std.specs.Prelude.{◌≡◌, ◌<◌, ◌^◌, ◌++◌, ◌∷◌, [], List};
-ghost use Rattle.seatmelon_reading.specs.Silences.{IsFirstLongest, IsLongest, IsLongestSilence, IsSearch, is_side, nanoseconds_each, nanoseconds_in, nanoseconds_of, silences_between};
+ghost use Rattle.std.specs.Prelude.{◌≡◌, ◌<◌, ◌^◌, ◌++◌, ◌∷◌, [], List, filter, length};
+ghost use Rattle.seatmelon_reading.specs.Silences.{IsFirstLongest, IsLongest, IsLongestSilence, IsSearch, is_side, is_untimed, nanoseconds_each, nanoseconds_in, nanoseconds_of, silences_between};
 
 use crate::notes::Sighting;
 use rasta_pcap::{CaptureTime, FractionUnit, Side};
@@ -101,6 +101,20 @@ fn is_side(side: Side, other: Side) -> bool
         (Side::Client, Side::Client) | (Side::Server, Side::Server) => true,
         (Side::Client, Side::Server) | (Side::Server, Side::Client) => false,
     }
+}
+
+// Whether a packet has no time.
+fn is_untimed(packet: &Sighting) -> bool
+    ensures { result ≡ is_untimed packet.now }
+{
+    packet.time.is_none()
+}
+
+/// How many of these packets have no time. Where there are any, no silence can be told.
+pub fn count_untimed(packets: &[Sighting]) -> u64
+    ensures { result ≡ length (filter is_untimed packets.now) }
+{
+    packets.iter().filter(|packet| is_untimed(*packet)).count() as u64
 }
 
 /// The longest silence of an end, and the first of those that are as long; none where it sent fewer than two packets.

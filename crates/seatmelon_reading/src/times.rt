@@ -1,7 +1,7 @@
 //! What is noted of the times of capture. None of it is part of a verdict.
-ghost use Rattle.std.specs.Prelude.{◌≡◌, suc, ◌++◌, ◌∷◌, [], ◌<◌, ◌^◌, List, length, nat_le, Some};
+ghost use Rattle.std.specs.Prelude.{◌≡◌, suc, Bool, ◌++◌, ◌∷◌, [], ◌<◌, ◌^◌, List, length, nat_le};
 ghost use Rattle.rasta_pcap.specs.Captured.{Captured};
-ghost use Rattle.seatmelon_reading.specs.Times.{AreTimes, falls_below, if_noticed, in_second, is_earlier, noticed};
+ghost use Rattle.seatmelon_reading.specs.Times.{AreTimes, falls_below, if_noticed, in_second, is_earlier, is_zero, noticed, time_of, time_told};
 
 use rasta_pcap::{CaptureTime, FractionUnit};
 
@@ -15,14 +15,31 @@ pub struct Noticed {
 /// What is noted of the times of the records that were read.
 #[derive(Clone, Copy)]
 pub struct TimeNotes {
-    /// Records whose time is below that of the record just before them in the file.
+    /// Records whose time is below that of the last record before them in the file that has one.
     pub falling: Noticed,
 
     /// Records whose fraction isn't below a second.
     pub overlong: Noticed,
 
-    // The time of the last record.
+    // The time of the last record that has one.
     last: Option<CaptureTime>,
+}
+
+// Whether seconds and fraction are 0.
+fn is_zero(time: CaptureTime) -> bool
+    ensures { result ≡ is_zero time }
+{
+    time.seconds == 0 && time.fraction == 0
+}
+
+/// The time that is told where this was read: none of 0 where that is none.
+pub(crate) fn time_told(zero_is_no_time: bool, time: Option<CaptureTime>) -> Option<CaptureTime>
+    ensures { result ≡ time_told zero_is_no_time time }
+{
+    match time {
+        Some(time) if zero_is_no_time && is_zero(time) => None,
+        _ => time,
+    }
 }
 
 // How many of this unit are a second.
@@ -85,10 +102,10 @@ impl TimeNotes {
         }
     }
 
-    // Takes in one record more, of this number, which was captured at this time.
+    // Takes in one record more, of this number, which was captured at this time, if it has one.
     pub(crate) fn add(&mut self, number: u32, captured: Option<CaptureTime>)
-        ensures { (records : List Captured) (r : Captured) → AreTimes records self.old → length records < 2 ^ 32 → r.number ≡ number
-            → captured ≡ Some r.time → AreTimes (records ++ r ∷ []) self.new }
+        ensures { (zero : Bool) (records : List Captured) (r : Captured) → AreTimes zero records self.old → length records < 2 ^ 32
+            → r.number ≡ number → captured ≡ time_of zero r → AreTimes zero (records ++ r ∷ []) self.new }
     {
         let Some(time) = captured else {
             return;

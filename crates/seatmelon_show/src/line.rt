@@ -16,6 +16,7 @@ use rasta_pdu::Params;
 use rasta_udp::Datagram;
 use seatmelon_lines::{parts, write_parts, write_words};
 use seatmelon_packets::name_of;
+use seatmelon_pcapng::{Format, Refusal};
 
 // How many characters the columns have.
 const RECORD: usize = 8;
@@ -217,18 +218,49 @@ fn words_on(fault: Fault) -> (&'static str, &'static str) {
     }
 }
 
-/// Writes why no further record is listed.
-pub fn write_end<W: Sink>(writer: &mut W, fault: Fault) -> Result<(), Fault>
+// Writes what a fault that ends a capture says, with the number of its record.
+fn write_record_fault<W: Sink>(writer: &mut W, fault: Fault) -> Result<(), Fault>
     ensures written { AsWritten result (W.failure_count writer.old) (W.failure_count writer.new) }
 {
     let (before, behind) = words_on(fault);
-    let (number, name) = (fault.number, fault.name());
+    write_parts(writer, &parts![before, fault.place, behind])
+}
+
+// Writes why a pcapng file is refused, whose capture therefore ends inside this record.
+fn write_refusal<W: Sink>(writer: &mut W, record: u32, refusal: Refusal) -> Result<(), Fault>
+    ensures written { AsWritten result (W.failure_count writer.old) (W.failure_count writer.new) }
+{
+    let records = record.saturating_sub(1);
+    let name = if records == 1 { " record" } else { " records" };
+    let Refusal { reason, at } = refusal;
     write_parts(
         writer,
         &parts![
-            before,
-            fault.place,
-            behind,
+            "after ",
+            records,
+            name,
+            ", at byte ",
+            at,
+            ": ",
+            reason.words()
+        ],
+    )
+}
+
+/// Writes why no further record is listed of a file in this format.
+pub fn write_end<W: Sink>(writer: &mut W, fault: Fault, format: Format) -> Result<(), Fault>
+    ensures written { AsWritten result (W.failure_count writer.old) (W.failure_count writer.new) }
+{
+    let (number, name) = (fault.number, fault.name());
+    match format.refusal() {
+        Some(refusal) if number == Fault::CUT_RECORD => {
+            write_refusal(writer, fault.place, refusal)?;
+        }
+        _ => write_record_fault(writer, fault)?,
+    }
+    write_parts(
+        writer,
+        &parts![
             " (",
             number,
             " ",

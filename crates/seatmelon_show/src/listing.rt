@@ -1,9 +1,10 @@
 //! Listing the packets of a capture.
-ghost use Rattle.std.specs.Prelude.{◌≡◌, ◌≢◌, ◌<◌, ◌≤◌, ◌⊎◌, ◌↔◌, IsTrue, ℕ, Option, List, IfErr, IfOk, OnOk};
+ghost use Rattle.std.specs.Prelude.{◌≡◌, ◌≢◌, ◌<◌, ◌≤◌, ◌⊎◌, ◌↔◌, IsTrue, ℕ, Option, option_map, List, IfErr, IfOk, OnOk};
 ghost use Rattle.rasta_pcap.specs.Capture.{Reading, max_records};
 ghost use Rattle.rasta_pcap.specs.Fault.{no_memory, read_failed, write_failed};
 ghost use Rattle.rasta_pcap.specs.Stream.{RefusesHeader, count_in, progress_of};
 ghost use Rattle.rasta_pcap.specs.declared.stream.Progress.TheVariants.{Reading as StillReading};
+ghost use Rattle.seatmelon_pcapng.specs.Formats.{capture_of};
 ghost use Rattle.seatmelon_show.specs.Counted.{AreSmall, IsListingOf, counts_after, counts_next};
 ghost use Rattle.seatmelon_show.specs.Sighted.{seen_of, sighted_in};
 ghost use Rattle.seatmelon_show.specs.OnWay.{IsThrough, ReaderOnWay, ReadsOnIf, StepsTo};
@@ -16,6 +17,7 @@ use crate::sight::{Sight, sight_in};
 use rasta_pcap::stream::RecordReader;
 use rasta_pcap::{Buffered, CaptureTime, Fault, Record, Sink, Source};
 use rasta_pdu::Params;
+use seatmelon_pcapng::{Capture, Format};
 use std::alloc::Global;
 
 // How many bytes are read at once.
@@ -149,17 +151,17 @@ fn list_records<R: Source, W: Sink>(
     Ok(())
 }
 
-// Writes the end of a listing.
-fn write_tail<W: Sink>(writer: &mut W, listing: &Listing) -> Result<(), Fault>
+// Writes the end of a listing of a file in this format.
+fn write_tail<W: Sink>(writer: &mut W, listing: &Listing, format: Format) -> Result<(), Fault>
     ensures err { IfErr result (λ f. f ≡ write_failed) }
 {
     if let Some(fault) = listing.fault {
-        write_end(writer, fault)?;
+        write_end(writer, fault, format)?;
     }
     write_counts(writer, &listing.counts)
 }
 
-// Lists the packets of a capture, from its header on.
+// Lists the packets of a capture, from its header on, without the end of the listing.
 fn list_capture<R: Source, W: Sink>(
     alloc: Global,
     params: &Params,
@@ -178,12 +180,12 @@ fn list_capture<R: Source, W: Sink>(
         fault: None,
     };
     list_records(params, choice, records, reader, &mut listing, writer)?;
-    write_tail(writer, &listing)?;
     Ok(listing)
 }
 
 /// Lists the packets of the recorded channels in the window, those that are chosen, each before the next record is read,
-/// through a buffer. Nothing is written before the capture's header was read.
+/// through a buffer. The file is a classic capture or one of pcapng. Nothing is written before the capture's header was
+/// read.
 ///
 /// Refused by [`Fault::NO_MEMORY`], [`Fault::READ_FAILED`], [`Fault::WRITE_FAILED`] and as the capture's header is refused.
 /// A fault of a record ends the listing, and is part of it.
@@ -195,10 +197,19 @@ pub fn list<R: Source, W: Sink>(
     writer: &mut W,
 ) -> Result<Listing, Fault>
     // Of a file that is known it is told how many packets there are up to the window's last record, and its fault.
-    ensures listed { IfOk result (IsListingOf params.now choice.now (R.remaining reader.old)) }
+    ensures listed { IfOk result (IsListingOf params.now choice.now (option_map capture_of (R.remaining reader.old))) }
     ensures err { IfErr result (λ f. (f ≡ no_memory) ⊎ ((f ≡ read_failed) ⊎ ((f ≡ write_failed)
-        ⊎ ((left : Option (List ℕ)) × RefusesHeader f (R.remaining reader.old) left)))) }
+        ⊎ ((left : Option (List ℕ)) × RefusesHeader f (option_map capture_of (R.remaining reader.old)) left)))) }
 {
-    let mut source = Buffered::new(alloc, reader, BUFFER)?;
-    list_capture(alloc, params, choice, &mut source, writer)
+    let capture = Capture::open(alloc, reader)?;
+    let mut source = Buffered::new(alloc, capture, BUFFER)?;
+    let listed = list_capture(alloc, params, choice, &mut source, writer);
+    let capture = source.into_inner();
+    match listed {
+        Ok(listing) => {
+            write_tail(writer, &listing, capture.format())?;
+            Ok(listing)
+        }
+        Err(fault) => Err(capture.fault_met(fault)),
+    }
 }

@@ -163,6 +163,46 @@ the file ends inside record 2 (14 CutRecord): nothing from there on is listed
 packets listed: 1 of 1 in the window
 ";
 
+// Before the packet of the first record in a pcapng file: a section, an interface, and the front of the packet's block.
+const FRONT: &[u8] = b"\x0a\x0d\x0d\x0a\x1c\0\0\0\x4d\x3c\x2b\x1a\x01\0\0\0\
+    \xff\xff\xff\xff\xff\xff\xff\xff\x1c\0\0\0\
+    \x01\0\0\0\x14\0\0\0\x01\0\0\0\0\0\x04\0\x14\0\0\0\
+    \x06\0\0\0\x90\0\0\0\0\0\0\0HG\x06\0\0@ Fp\0\0\0p\0\0\0";
+
+// Behind it: the end of its block, and the front of a block that isn't there.
+const BEHIND: &[u8] = b"\x90\0\0\0\x06\0\0\0\x90\0\0\0";
+
+// The pcapng file, up to there.
+fn pcapng(alloc: Global, behind: &[u8]) -> Option<Vec<u8>> {
+    let mut file = Vec::from_slice(alloc, FRONT).ok()?;
+    file.extend_from_slice(&FILE[40..152]).ok()?;
+    file.extend_from_slice(behind).ok()?;
+    Some(file)
+}
+
+// Whether the listing of the pcapng file up to there is what is wanted.
+fn is_pcapng_listed(alloc: Global, behind: &[u8], want: &'static str) -> Option<bool> {
+    is_listed(alloc, &pcapng(alloc, behind)?, &listing_of(want))
+}
+
+const ONE: &str = "       \
+1  2026-01-01 00:00:00.000000000        1  client           7  connection request              100           0        1000           0  \
+version 0303, N_sendmax 20
+packets listed: 1 of 1 in the window
+";
+
+const CUT_BEHIND: &str = "       \
+1  2026-01-01 00:00:00.000000000        1  client           7  connection request              100           0        1000           0  \
+version 0303, N_sendmax 20
+after 1 record, at byte 192: the file ends inside a block (14 CutRecord): nothing from there on is listed
+packets listed: 1 of 1 in the window
+";
+
+const CUT_BEFORE: &str = "\
+after 0 records, at byte 48: the file ends inside a block (14 CutRecord): nothing from there on is listed
+no packet of the recorded channels is in the window: check addresses and ports
+";
+
 const NONE: &str = "\
 no packet of the recorded channels is in the window: check addresses and ports
 ";
@@ -188,6 +228,14 @@ fn packets_of_a_sample(rt: HostRuntime) {
         ..listing_of(NONE)
     };
     assert_eq!(rt; is_listed(alloc, FILE, &none), Some(true));
+}
+
+#[test]
+fn packets_of_a_pcapng_file(rt: HostRuntime) {
+    let alloc = rt.alloc();
+    assert_eq!(rt; is_pcapng_listed(alloc, &BEHIND[..4], ONE), Some(true));
+    assert_eq!(rt; is_pcapng_listed(alloc, BEHIND, CUT_BEHIND), Some(true));
+    assert_eq!(rt; is_pcapng_listed(alloc, b"", CUT_BEFORE), Some(true));
 }
 
 #[test]

@@ -16,6 +16,7 @@ use seatmelon_capture::FileHeader;
 use seatmelon_connections::{Arrival, Connection};
 use seatmelon_lines::write_words;
 use seatmelon_packets::{Packet, Recognizer, Sight, Way, sight_in};
+use seatmelon_pcapng::Format;
 use std::alloc::Global;
 use std::marker::Model;
 
@@ -80,6 +81,7 @@ pub struct Survey {
     cuts: Cuts,
     fault: Option<Fault>,
     header: Option<FileHeader>,
+    format: Format,
 }
 
 impl Model for Survey {
@@ -87,7 +89,7 @@ impl Model for Survey {
 
     ghost Value = { Findings };
 
-    ghost view = { λ s. record { connections = s.connections.items; records = s.records; packets = s.packets; left_out = s.left_out; cuts = s.cuts; fault = s.fault; header = s.header } };
+    ghost view = { λ s. record { connections = s.connections.items; records = s.records; packets = s.packets; left_out = s.left_out; cuts = s.cuts; fault = s.fault; header = s.header; format = s.format } };
 
     ghost use Rattle.seatmelon_survey.specs.Belonging.{ArePlaced};
 
@@ -98,7 +100,7 @@ impl Survey {
     ghost use Rattle.seatmelon_connections.specs.Comparing.{is_claimed};
     ghost use Rattle.seatmelon_connections.specs.Noted.{repeated_in};
     ghost use Rattle.seatmelon_survey.specs.Belonging.{destination_after, destination_behind, destination_of, ends_of, last_between, opened_among, opening_in};
-    ghost use Rattle.seatmelon_survey.specs.Survey.{connections_in, cuts_of, fault_in, header_of, records_in};
+    ghost use Rattle.seatmelon_survey.specs.Survey.{connections_in, cuts_of, fault_in, format_of_survey, header_of, records_in};
     ghost use Rattle.seatmelon_survey.specs.CutNotes.{no_cuts};
     ghost use Rattle.seatmelon_survey.specs.Cuts.{TakesCutIf};
     ghost use Rattle.seatmelon_packets.specs.Cut.{cut_in};
@@ -108,6 +110,7 @@ impl Survey {
         ensures records { records_in result ≡ 0 }
         ensures fault { fault_in result ≡ None }
         ensures cuts { cuts_of result ≡ no_cuts }
+        ensures format { format_of_survey result ≡ Format.Classic }
     {
         Survey {
             behind,
@@ -120,6 +123,7 @@ impl Survey {
             cuts: Cuts::new(alloc),
             fault: None,
             header: None,
+            format: Format::Classic,
         }
     }
 
@@ -177,6 +181,20 @@ impl Survey {
         ensures { self.new ≡ record self.old { header = header } }
     {
         self.header = header;
+    }
+
+    /// In which format the file of the capture was read, where that was kept; else as a classic one.
+    pub fn format(&self) -> Format
+        ensures { result ≡ format_of_survey self.now }
+    {
+        self.format
+    }
+
+    /// Keeps in which format the file of the capture was read.
+    pub fn set_format(&mut self, format: Format)
+        ensures { self.new ≡ record self.old { format = format } }
+    {
+        self.format = format;
     }
 
     /// Keeps the fault of the record behind those that were taken in.
@@ -388,6 +406,6 @@ impl Survey {
             return Ok(());
         };
         write_words(writer, "\n")?;
-        write_fault(writer, fault)
+        write_fault(writer, fault, self.format)
     }
 }

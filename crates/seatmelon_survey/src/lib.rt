@@ -10,7 +10,7 @@ mod reading;
 mod report;
 
 pub use cuts::{CutCount, Cuts, Direction, MOST_DIRECTIONS};
-pub use fault_words::{FaultWords, words_of_fault, write_fault};
+pub use fault_words::{FaultWords, FileRefusal, words_of_fault, write_fault};
 pub use findings::{Behind, MOST_CONNECTIONS, Survey};
 pub use reading::survey;
 pub use report::write_connection;

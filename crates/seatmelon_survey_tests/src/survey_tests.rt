@@ -4,7 +4,8 @@ use crate::files::file_with;
 use rasta_pcap::devices::{FailAt, Pieces};
 use rasta_pcap::{Counted, Fault, Sink, Source};
 use rasta_rows::file_of;
-use seatmelon_survey::{Connection, Survey, survey};
+use seatmelon_pcapng::{Format, Reason, Refusal};
+use seatmelon_survey::{Connection, Survey, survey, write_fault};
 use std::alloc::Global;
 
 fn first_case() -> Option<Case<'static>> {
@@ -63,6 +64,49 @@ fn cut_capture(rt: HostRuntime) {
     assert_eq!(rt; fault, Some(Fault::at(Fault::CUT_RECORD, 3)));
     let refused = surveyed(rt.alloc(), &[], 7).err();
     assert_eq!(rt; refused, Some(Fault::at(Fault::CUT_HEADER, 0)));
+}
+
+// A pcapng file that is refused at a block.
+const REFUSED: Format = Format::Pcapng(Some(Refusal {
+    reason: Reason::Trailer,
+    at: 60,
+}));
+
+// Whether the text of a survey of the capture that is cut in its last record ends so, where its file was read in this format.
+fn ends_so(alloc: Global, format: Format, end: &str) -> Option<bool> {
+    let (_, file) = file_of(alloc, "data plain", "0 1 2 cut")?;
+    let mut found = surveyed(alloc, &file, 7).ok()?;
+    found.set_format(format);
+    Some(text_of(alloc, &found)?.ends_with(end.as_bytes()))
+}
+
+#[test]
+fn cut_capture_of_a_pcapng_file(rt: HostRuntime) {
+    let end = "\n\nafter 2 records, at byte 60: the two lengths of a block differ (14 CutRecord)\n";
+    assert_eq!(rt; ends_so(rt.alloc(), REFUSED, end), Some(true));
+    let end = "\n\nthe file ends inside record 3 (14 CutRecord)\n";
+    assert_eq!(rt; ends_so(rt.alloc(), Format::Pcapng(None), end), Some(true));
+}
+
+// Whether a fault of a file in this format is told so.
+fn is_told(alloc: Global, fault: Fault, format: Format, text: &str) -> Option<bool> {
+    let mut writer = Counted::new(Vec::new(alloc));
+    write_fault(&mut writer, fault, format).ok()?;
+    Some(writer.into_inner().as_slice() == text.as_bytes())
+}
+
+#[test]
+fn faults_of_a_pcapng_file(rt: HostRuntime) {
+    let alloc = rt.alloc();
+    let fault = Fault::at(Fault::CUT_RECORD, 2);
+    let text = "after 1 record, at byte 60: the two lengths of a block differ (14 CutRecord)\n";
+    assert_eq!(rt; is_told(alloc, fault, REFUSED, text), Some(true));
+    let fault = Fault::at(Fault::TOO_MANY, 5);
+    let text = "record 5 is one too many (17 TooMany)\n";
+    assert_eq!(rt; is_told(alloc, fault, REFUSED, text), Some(true));
+    let fault = Fault::at(Fault::CUT_HEADER, 0);
+    let text = "the file ends inside its header (13 CutHeader)\n";
+    assert_eq!(rt; is_told(alloc, fault, Format::Classic, text), Some(true));
 }
 
 // Whether the survey of the first case is the same where a read may fail, or the failure is told.

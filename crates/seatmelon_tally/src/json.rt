@@ -5,6 +5,8 @@ ghost use Rattle.rasta_pcap.specs.Fault.{write_failed};
 use crate::counts::Counts;
 use rasta_pcap::{CaptureTime, Fault, Side, Sink};
 use seatmelon_audit::{Answer, Audit, Conveyed, Explained, Refusal, Subject};
+use seatmelon_pcapng::Format;
+use seatmelon_survey::FileRefusal;
 use seatmelon_text::json::{write_long, write_string};
 use seatmelon_text::{parts, write_parts, write_words};
 
@@ -134,29 +136,52 @@ fn write_record<W: Sink>(writer: &mut W, place: u32) -> Result<(), Fault>
     ensures err { IfErr result (λ f. f ≡ write_failed) }
 {
     if place == 0 {
-        return write_words(writer, ",\"record\":null}");
+        return write_words(writer, ",\"record\":null");
     }
-    write_parts(writer, &parts![",\"record\":", place, "}"])
+    write_parts(writer, &parts![",\"record\":", place])
 }
 
-// Writes the fault of the file, or null.
-fn write_file_fault<W: Sink>(writer: &mut W, fault: Option<Fault>) -> Result<(), Fault>
+// Writes at which block a file is refused, and why, if it is.
+fn write_block_if<W: Sink>(writer: &mut W, refused: Option<FileRefusal>) -> Result<(), Fault>
+    ensures err { IfErr result (λ f. f ≡ write_failed) }
+{
+    let Some(refused) = refused else {
+        return Ok(());
+    };
+    let refusal = refused.refusal;
+    write_words(writer, ",\"block\":{\"offset\":")?;
+    write_long(writer, refusal.at)?;
+    write_words(writer, ",\"reason\":")?;
+    write_string(writer, refusal.reason.words())?;
+    write_words(writer, "}")
+}
+
+// Writes the fault of a file in this format, or null.
+fn write_file_fault<W: Sink>(
+    writer: &mut W,
+    fault: Option<Fault>,
+    format: Format,
+) -> Result<(), Fault>
     ensures err { IfErr result (λ f. f ≡ write_failed) }
 {
     match fault {
         Some(fault) => {
             write_fault(writer, fault)?;
-            write_record(writer, fault.place)
+            write_record(writer, fault.place)?;
+            write_block_if(writer, FileRefusal::told_by(fault, format))?;
+            write_words(writer, "}")
         }
         None => write_words(writer, "null"),
     }
 }
 
-/// Writes an audit as one JSON object and a line feed. The names stand in the order of the answers.
+/// Writes an audit of a file in this format as one JSON object and a line feed. The names stand in the order of the
+/// answers.
 pub fn write_audit_json<W: Sink>(
     writer: &mut W,
     names: &[String],
     audit: &Audit,
+    format: Format,
 ) -> Result<(), Fault>
     ensures err { IfErr result (λ f. f ≡ write_failed) }
 {
@@ -174,6 +199,6 @@ pub fn write_audit_json<W: Sink>(
             ",\"fault\":"
         ],
     )?;
-    write_file_fault(writer, audit.fault)?;
+    write_file_fault(writer, audit.fault, format)?;
     write_words(writer, "}\n")
 }

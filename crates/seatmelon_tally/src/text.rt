@@ -5,7 +5,8 @@ ghost use Rattle.rasta_pcap.specs.Fault.{write_failed};
 use crate::counts::Counts;
 use rasta_pcap::{CaptureTime, Fault, Side, Sink};
 use seatmelon_audit::{Answer, Audit, Conveyed, Explained, Refusal, Subject};
-use seatmelon_survey::{FaultWords, words_of_fault};
+use seatmelon_pcapng::Format;
+use seatmelon_survey::write_fault;
 use seatmelon_text::{parts, write_parts, write_words};
 
 // What so many are called.
@@ -120,35 +121,16 @@ fn write_answer<W: Sink>(writer: &mut W, name: &str, answer: &Answer) -> Result<
     }
 }
 
-// Writes the number of the record that a fault names, with the words behind it; a fault of the file's header names none.
-fn write_record_if<W: Sink>(writer: &mut W, fault: Fault, behind: &'static str) -> Result<(), Fault>
-    ensures err { IfErr result (λ f. f ≡ write_failed) }
-{
-    if fault.place == 0 {
-        return Ok(());
-    }
-    write_parts(writer, &parts![fault.place, behind])
-}
-
-// Writes what the fault of the file says, as a line.
-fn write_fault<W: Sink>(writer: &mut W, fault: Fault) -> Result<(), Fault>
-    ensures err { IfErr result (λ f. f ≡ write_failed) }
-{
-    let FaultWords { before, behind } = words_of_fault(fault.number);
-    write_words(writer, before)?;
-    write_record_if(writer, fault, behind)?;
-    write_parts(
-        writer,
-        &parts![" (", fault.number, " ", fault.name(), ")\n"],
-    )
-}
-
-// Writes what the fault of the file says, if it isn't whole.
-fn write_fault_if<W: Sink>(writer: &mut W, fault: Option<Fault>) -> Result<(), Fault>
+// Writes what the fault of a file in this format says, as a line, if it isn't whole.
+fn write_fault_if<W: Sink>(
+    writer: &mut W,
+    fault: Option<Fault>,
+    format: Format,
+) -> Result<(), Fault>
     ensures err { IfErr result (λ f. f ≡ write_failed) }
 {
     match fault {
-        Some(fault) => write_fault(writer, fault),
+        Some(fault) => write_fault(writer, fault, format),
         None => Ok(()),
     }
 }
@@ -202,14 +184,20 @@ fn write_counts<W: Sink>(writer: &mut W, audit: &Audit) -> Result<(), Fault>
     )
 }
 
-/// Writes an audit in words: a line for each connection, with its name, in their order; what the fault of the file
-/// says, if it isn't whole; and how many there are of each kind. The names stand in the order of the answers.
-pub fn write_audit<W: Sink>(writer: &mut W, names: &[String], audit: &Audit) -> Result<(), Fault>
+/// Writes an audit in words: a line for each connection, with its name, in their order; what the fault of the file, which
+/// was read in this format, says, if it isn't whole; and how many there are of each kind. The names stand in the order of
+/// the answers.
+pub fn write_audit<W: Sink>(
+    writer: &mut W,
+    names: &[String],
+    audit: &Audit,
+    format: Format,
+) -> Result<(), Fault>
     ensures err { IfErr result (λ f. f ≡ write_failed) }
 {
     for (name, answer) in names.iter().zip(audit.answers.iter()) {
         write_answer(writer, name.as_str(), answer)?;
     }
-    write_fault_if(writer, audit.fault)?;
+    write_fault_if(writer, audit.fault, format)?;
     write_counts(writer, audit)
 }

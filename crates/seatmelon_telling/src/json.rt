@@ -10,20 +10,29 @@ use crate::json_refusal::write_refusal;
 use crate::page::PROGRAM;
 use rasta_pcap::{Fault, Sink};
 use seatmelon_account::{Account, File, Verdict};
+use seatmelon_pcapng::Format;
 use seatmelon_reading::{ChannelCount, Window};
 use seatmelon_text::json::{write_long, write_string};
 use seatmelon_text::{Part, parts, write_parts, write_words};
 
-// Writes a file's name and its SHA-256.
-fn write_file<W: Sink>(writer: &mut W, file: &File<'_>) -> Result<(), Fault>
+// Writes a file's name, its SHA-256, and what else is told of it.
+fn write_file<W: Sink>(writer: &mut W, file: &File<'_>, more: &'static str) -> Result<(), Fault>
     ensures err { IfErr result (λ f. f ≡ write_failed) }
 {
     write_words(writer, "{\"name\":")?;
     write_string(writer, file.name)?;
     write_parts(
         writer,
-        &parts![",\"sha256\":\"", Part::Hex(&file.sum), "\"}"],
+        &parts![",\"sha256\":\"", Part::Hex(&file.sum), "\"", more, "}"],
     )
+}
+
+// In which format the capture was read, where that isn't the classic one.
+fn words_of_format(format: Format) -> &'static str {
+    match format {
+        Format::Classic => "",
+        Format::Pcapng(_) => ",\"format\":\"pcapng\"",
+    }
 }
 
 // Writes the name and the SHA-256 of the certificate, if one was given.
@@ -31,7 +40,7 @@ fn write_certificate<W: Sink>(writer: &mut W, file: Option<&File<'_>>) -> Result
     ensures err { IfErr result (λ f. f ≡ write_failed) }
 {
     match file {
-        Some(file) => write_file(writer, file),
+        Some(file) => write_file(writer, file, ""),
         None => write_words(writer, "null"),
     }
 }
@@ -41,9 +50,9 @@ fn write_files<W: Sink>(writer: &mut W, account: &Account<'_>) -> Result<(), Fau
     ensures err { IfErr result (λ f. f ≡ write_failed) }
 {
     write_words(writer, ",\"capture\":")?;
-    write_file(writer, &account.capture)?;
+    write_file(writer, &account.capture, words_of_format(account.format))?;
     write_words(writer, ",\"parameters\":")?;
-    write_file(writer, &account.parameters)?;
+    write_file(writer, &account.parameters, "")?;
     write_words(writer, ",\"certificate\":")?;
     write_certificate(writer, account.certificate.as_ref())
 }

@@ -4,6 +4,7 @@ ghost use Rattle.rasta_pcap.specs.Fault.{write_failed};
 
 use crate::json::write_count;
 use crate::json_places::{write_number_if, write_sighting_if};
+use crate::notes::silences_told;
 use rasta_pcap::{Fault, Sink};
 use seatmelon_account::Account;
 use seatmelon_reading::{Noticed, PassedOver, Silence};
@@ -50,17 +51,30 @@ fn write_silence<W: Sink>(writer: &mut W, silence: Option<&Silence>) -> Result<(
     write_words(writer, "}")
 }
 
+// Writes how many packets have no time, if some have none.
+fn write_untimed<W: Sink>(writer: &mut W, count: u64) -> Result<(), Fault>
+    ensures err { IfErr result (λ f. f ≡ write_failed) }
+{
+    if count == 0 {
+        return Ok(());
+    }
+    write_words(writer, "\"packets_without_time\":")?;
+    write_long(writer, count)?;
+    write_words(writer, ",")
+}
+
 /// Writes what is noted of the times of capture.
 pub fn write_times<W: Sink>(writer: &mut W, account: &Account<'_>) -> Result<(), Fault>
     ensures err { IfErr result (λ f. f ≡ write_failed) }
 {
-    let [client, server] = &account.silences;
+    let [client, server] = silences_told(account);
     write_words(writer, ",\"times\":{")?;
     write_noticed(writer, "falling", account.times.falling)?;
     write_noticed(writer, "overlong_fractions", account.times.overlong)?;
+    write_untimed(writer, account.untimed)?;
     write_words(writer, "\"longest_silence\":{\"client\":")?;
-    write_silence(writer, client.as_ref())?;
+    write_silence(writer, client)?;
     write_words(writer, ",\"server\":")?;
-    write_silence(writer, server.as_ref())?;
+    write_silence(writer, server)?;
     write_words(writer, "}}")
 }

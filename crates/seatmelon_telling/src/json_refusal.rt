@@ -2,6 +2,7 @@
 ghost use Rattle.std.specs.Prelude.{◌≡◌, IfErr};
 ghost use Rattle.rasta_pcap.specs.Fault.{write_failed};
 
+use crate::blocks::{block_refused, meaning_of_block};
 use crate::frames::{write_link_type_json, write_snapshot_json};
 use crate::json_packet::{write_crossed_if, write_lengths_if, write_packet_if, write_trouble_if};
 use crate::json_places::{write_long_if, write_number_if, write_time_if};
@@ -12,21 +13,37 @@ use seatmelon_account::{
     Account, BrokenRule, Crossed, Deadline, NamedPacket, Refusal, RefusedEntry, RefusedPacket,
     Subject,
 };
-use seatmelon_capture::FileHeader;
 use seatmelon_reading::{CodeCount, Sighting};
 use seatmelon_text::json::{write_long, write_sentence};
 use seatmelon_text::{Part, parts, write_parts, write_words};
 
+// Writes what a fault means, and which block of a pcapng file it speaks of, if it does.
+fn write_meaning<W: Sink>(writer: &mut W, account: &Account<'_>, fault: Fault) -> Result<(), Fault>
+    ensures err { IfErr result (λ f. f ≡ write_failed) }
+{
+    let Some(block) = block_refused(account, fault) else {
+        return write_sentence(writer, meaning_in(fault, account.header));
+    };
+    write_words(writer, "\"")?;
+    write_parts(writer, &meaning_of_block(block))?;
+    write_words(writer, "\",\"block\":{\"offset\":")?;
+    write_long(writer, block.at)?;
+    write_parts(
+        writer,
+        &parts![",\"reason\":\"", block.reason.words(), "\"}"],
+    )
+}
+
 // Writes a fault, and what to do about it.
 fn write_fault<W: Sink>(
     writer: &mut W,
+    account: &Account<'_>,
     refusal: &Refusal<'_>,
-    header: Option<FileHeader>,
 ) -> Result<(), Fault>
     ensures err { IfErr result (λ f. f ≡ write_failed) }
 {
-    let fault = refusal.fault;
-    let hint = hint_of(refusal, header);
+    let (fault, header) = (refusal.fault, account.header);
+    let hint = hint_of(account, refusal);
     write_parts(
         writer,
         &parts![
@@ -37,7 +54,7 @@ fn write_fault<W: Sink>(
             "\",\"meaning\":"
         ],
     )?;
-    write_sentence(writer, meaning_in(fault, header))?;
+    write_meaning(writer, account, fault)?;
     write_words(writer, ",\"cause\":")?;
     write_sentence(writer, hint.cause)?;
     write_words(writer, ",\"next_step\":")?;
@@ -230,7 +247,7 @@ pub fn write_refusal<W: Sink>(
 {
     let subject = &refusal.subject;
     let packets = account.packets;
-    write_fault(writer, refusal, account.header)?;
+    write_fault(writer, account, refusal)?;
     write_record_if(writer, packets, subject)?;
     write_line_if(writer, subject)?;
     write_entry_if(writer, subject)?;

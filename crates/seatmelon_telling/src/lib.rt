@@ -1,6 +1,7 @@
 //! An account in words, and as JSON.
 #![tactic(auto)]
 
+mod blocks;
 mod code_lengths;
 mod explained;
 mod frames;

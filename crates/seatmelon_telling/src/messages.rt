@@ -78,7 +78,7 @@ fn place_in<'a>(scene: &Scene<'_>, role: Role, place: u32) -> [Part<'a>; 6] {
     };
     let (comma, time) = match sighting.time {
         Some(time) => (", ", time_in(scene, time)),
-        None => ("", Part::Words("")),
+        None => (", no time", Part::Words("")),
     };
     let (on, channel) = if scene.is_single {
         ("", Part::Words(""))

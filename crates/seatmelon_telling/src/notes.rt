@@ -85,26 +85,56 @@ fn write_noticed<W: Sink>(writer: &mut W, what: &'static str, noticed: Noticed) 
     }
 }
 
+/// The longest silence of the client and of the server. None is told where packets have no time: a longer one may be
+/// beside these.
+pub fn silences_told<'a>(account: &'a Account<'_>) -> [Option<&'a Silence>; 2] {
+    let [client, server] = &account.silences;
+    if account.untimed > 0 {
+        [None, None]
+    } else {
+        [client.as_ref(), server.as_ref()]
+    }
+}
+
 // Whether something is noted of the times of capture.
 fn is_any_noted(account: &Account<'_>) -> bool {
-    let [client, server] = &account.silences;
+    let [client, server] = silences_told(account);
     client.is_some()
         || server.is_some()
+        || account.untimed > 0
         || account.times.falling.count > 0
         || account.times.overlong.count > 0
+}
+
+// Writes how many packets have no time, if some have none.
+fn write_untimed<W: Sink>(writer: &mut W, count: u64) -> Result<(), Fault>
+    ensures err { IfErr result (λ f. f ≡ write_failed) }
+{
+    if count == 0 {
+        return Ok(());
+    }
+    write_parts(
+        writer,
+        &parts![
+            "  packets of the connection without a time: ",
+            count,
+            ", so that no silence is told\n"
+        ],
+    )
 }
 
 /// Writes what is noted of the times of capture.
 pub fn write_times<W: Sink>(writer: &mut W, account: &Account<'_>) -> Result<(), Fault>
     ensures err { IfErr result (λ f. f ≡ write_failed) }
 {
-    let [client, server] = &account.silences;
+    let [client, server] = silences_told(account);
     if !is_any_noted(account) {
         return Ok(());
     }
     write_words(writer, "Times of capture, which no verdict reads:\n")?;
-    write_silence(writer, Side::Client, client.as_ref())?;
-    write_silence(writer, Side::Server, server.as_ref())?;
+    write_silence(writer, Side::Client, client)?;
+    write_silence(writer, Side::Server, server)?;
+    write_untimed(writer, account.untimed)?;
     write_noticed(
         writer,
         "records captured before the one that stands before them",

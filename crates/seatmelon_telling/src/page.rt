@@ -3,10 +3,11 @@ ghost use Rattle.std.specs.Prelude.{◌≡◌, IfErr};
 ghost use Rattle.rasta_pcap.specs.Fault.{write_failed};
 
 use crate::notes::{write_passed_over, write_times};
-use rasta_pcap::{CaptureTime, Fault, Sink};
+use rasta_pcap::{Fault, Sink};
 use rasta_pdu::Params;
 use rasta_udp::Channel;
 use seatmelon_account::{Account, File, Offer, Offers};
+use seatmelon_pcapng::Format;
 use seatmelon_reading::{ChannelCount, Sighting, Window};
 use seatmelon_text::{Part, parts, write_parts, write_words};
 
@@ -29,6 +30,16 @@ fn write_file<W: Sink>(writer: &mut W, what: &str, file: &File<'_>) -> Result<()
             "\n"
         ],
     )
+}
+
+// Writes in which format the capture was read, where that isn't the classic one.
+fn write_format<W: Sink>(writer: &mut W, format: Format) -> Result<(), Fault>
+    ensures err { IfErr result (λ f. f ≡ write_failed) }
+{
+    match format {
+        Format::Classic => Ok(()),
+        Format::Pcapng(_) => write_words(writer, "    read as pcapng\n"),
+    }
 }
 
 // Writes the name and the SHA-256 of the certificate, if one was given.
@@ -291,6 +302,7 @@ pub fn write_judged<W: Sink>(writer: &mut W, account: &Account<'_>) -> Result<()
 {
     write_words(writer, "\nWhat was judged:\n")?;
     write_file(writer, "capture", &account.capture)?;
+    write_format(writer, account.format)?;
     write_file(writer, "parameters", &account.parameters)?;
     write_certificate(writer, account)?;
     write_parts(writer, &parts!["  program: ", PROGRAM, "\n"])?;
@@ -301,23 +313,13 @@ pub fn write_judged<W: Sink>(writer: &mut W, account: &Account<'_>) -> Result<()
     write_times(writer, account)
 }
 
-/// Writes a time after a comma, if there is one.
-pub fn write_time_if<W: Sink>(writer: &mut W, time: Option<CaptureTime>) -> Result<(), Fault>
-    ensures err { IfErr result (λ f. f ≡ write_failed) }
-{
-    match time {
-        Some(time) => write_parts(writer, &parts![", ", time, " UTC"]),
-        None => Ok(()),
-    }
-}
-
 // Record, time and channel of a packet.
 fn sighting_in(sighting: &Sighting) -> [Part<'static>; 6] {
     let record = Part::Number(u64::from(sighting.record));
     let channel = Part::Number(u64::from(sighting.channel));
     match sighting.time {
         Some(time) => parts!["record ", record, ", ", time, " UTC, channel ", channel],
-        None => parts!["record ", record, "", "", ", channel ", channel],
+        None => parts!["record ", record, ", no time", "", ", channel ", channel],
     }
 }
 

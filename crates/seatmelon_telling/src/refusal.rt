@@ -2,22 +2,34 @@
 ghost use Rattle.std.specs.Prelude.{◌≡◌, IfErr};
 ghost use Rattle.rasta_pcap.specs.Fault.{write_failed};
 
+use crate::blocks::{block_refused, meaning_of_block};
 use crate::code_lengths::write_code_lengths;
 use crate::frames::{write_link_type, write_snapshot};
 use crate::gap::write_gap;
 use crate::layout::write_payload_due;
 use crate::packet_text::{write_codes, write_datagram, write_differences, write_pdu};
-use crate::page::{write_judged, write_place, write_sighting, write_time_if, write_without};
+use crate::page::{write_judged, write_place, write_sighting, write_without};
 use crate::rule::write_rule;
 use crate::words::{Hint, fits_none, hint_of, meaning_in, meaning_of};
-use rasta_pcap::{Fault, Sink};
+use rasta_pcap::{CaptureTime, Fault, Sink};
 use seatmelon_account::{
     Account, Crossed, FirstCopy, NamedPacket, Refusal, RefusedEntry, RefusedPacket, Subject,
     Trouble,
 };
 use seatmelon_packets::Fits;
+use seatmelon_pcapng::Format;
 use seatmelon_reading::{CodeCount, Sighting};
 use seatmelon_text::{parts, write_parts, write_words};
+
+// Writes what a fault means.
+fn write_meaning<W: Sink>(writer: &mut W, account: &Account<'_>, fault: Fault) -> Result<(), Fault>
+    ensures err { IfErr result (λ f. f ≡ write_failed) }
+{
+    match block_refused(account, fault) {
+        Some(block) => write_parts(writer, &meaning_of_block(block)),
+        None => write_words(writer, meaning_in(fault, account.header)),
+    }
+}
 
 // Writes number, name and meaning of a fault.
 fn write_fault<W: Sink>(writer: &mut W, account: &Account<'_>, fault: Fault) -> Result<(), Fault>
@@ -28,7 +40,8 @@ fn write_fault<W: Sink>(writer: &mut W, account: &Account<'_>, fault: Fault) -> 
         &parts!["refused by ", fault.number, " ", fault.name()],
     )?;
     write_without(writer, account.without)?;
-    write_parts(writer, &parts![":\n  ", meaning_in(fault, account.header)])?;
+    write_words(writer, ":\n  ")?;
+    write_meaning(writer, account, fault)?;
     write_link_type(writer, fault, account.header)?;
     write_words(writer, "\n")?;
     write_snapshot(writer, fault, account.header)
@@ -283,14 +296,39 @@ fn write_record<W: Sink>(
     }
 }
 
+// Whether the record that a fault names was read whole, so that it has no time where none is known.
+fn is_read(fault: Fault) -> bool {
+    !matches!(
+        fault.number,
+        Fault::CUT_RECORD | Fault::TOO_MANY | Fault::RECORD_TOO_LONG
+    )
+}
+
+// Writes when a refused record was captured, after a comma, if it was read whole.
+fn write_time<W: Sink>(
+    writer: &mut W,
+    format: Format,
+    fault: Fault,
+    time: Option<CaptureTime>,
+) -> Result<(), Fault>
+    ensures err { IfErr result (λ f. f ≡ write_failed) }
+{
+    match time {
+        Some(time) => write_parts(writer, &parts![", ", time, " UTC"]),
+        None if format.is_pcapng() && is_read(fault) => write_words(writer, ", no time"),
+        None => Ok(()),
+    }
+}
+
 // Writes what a refusal speaks of.
 fn write_subject<W: Sink>(
     writer: &mut W,
-    packets: &[Sighting],
+    account: &Account<'_>,
     refusal: &Refusal<'_>,
 ) -> Result<(), Fault>
     ensures err { IfErr result (λ f. f ≡ write_failed) }
 {
+    let packets = account.packets;
     match &refusal.subject {
         Subject::Header => Ok(()),
         Subject::Record {
@@ -300,7 +338,7 @@ fn write_subject<W: Sink>(
             codes,
         } => {
             write_parts(writer, &parts!["\nrecord ", *record])?;
-            write_time_if(writer, *time)?;
+            write_time(writer, account.format, refusal.fault, *time)?;
             write_record(writer, packets, refusal, packet.as_ref(), *codes)
         }
         Subject::Line(line) => {
@@ -329,7 +367,7 @@ pub fn write_refusal<W: Sink>(
     ensures err { IfErr result (λ f. f ≡ write_failed) }
 {
     write_fault(writer, account, refusal.fault)?;
-    write_subject(writer, account.packets, refusal)?;
-    write_hint(writer, hint_of(refusal, account.header))?;
+    write_subject(writer, account, refusal)?;
+    write_hint(writer, hint_of(account, refusal))?;
     write_judged(writer, account)
 }

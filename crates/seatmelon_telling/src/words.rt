@@ -1,8 +1,9 @@
 //! What faults mean, what may be their cause, and what to look at next.
+use crate::blocks::{block_refused, hint_on_block};
 use crate::frames::{hint_on_frames, meaning_of_frames};
 use crate::gap::{Reason, reason_of};
 use rasta_pcap::Fault;
-use seatmelon_account::{Fields, Gap, Refusal, RefusedPacket, Subject, Trouble};
+use seatmelon_account::{Account, Fields, Gap, Refusal, RefusedPacket, Subject, Trouble};
 use seatmelon_capture::FileHeader;
 use seatmelon_reading::CodeCount;
 
@@ -175,11 +176,14 @@ fn hint_on_packet(fault: u8, packet: &RefusedPacket<'_>, codes: CodeCount) -> Hi
     }
 }
 
-/// The hint on a refusal of a capture with this header.
-pub fn hint_of(refusal: &Refusal<'_>, header: Option<FileHeader>) -> Hint {
+/// The hint on a refusal of a capture.
+pub fn hint_of(account: &Account<'_>, refusal: &Refusal<'_>) -> Hint {
     let number = refusal.fault.number;
+    if let Some(block) = block_refused(account, refusal.fault) {
+        return hint_on_block(block.reason);
+    }
     match &refusal.subject {
-        Subject::Header if number == Fault::LINK_TYPE => hint_on_frames(header),
+        Subject::Header if number == Fault::LINK_TYPE => hint_on_frames(account.header),
         Subject::Unexplained {
             is_exchanged: true,
             ..

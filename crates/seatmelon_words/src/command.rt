@@ -28,6 +28,9 @@ pub enum Request<'a> {
 
     /// The verdict on a capture, in words or as data.
     Explain(Explaining<'a>),
+
+    /// A classic capture of the packets of a file in either format.
+    Convert { capture: &'a str },
 }
 
 const SURVEY_STATUSES: &str = "\
@@ -51,11 +54,18 @@ Exit status:
   2  the arguments are wrong, or the parameters are refused
   3  memory, reading or writing failed";
 
+const CONVERT_STATUSES: &str = "\
+Exit status:
+  0  the capture is written
+  1  a block of it is refused: the packets before it are written
+  2  the arguments are wrong
+  3  memory, reading or writing failed";
+
 // The first word of each command.
 pub(crate) fn capture<'a>(alloc: Global) -> Arg<'a> {
     Arg::new(alloc, "capture")
         .value_name("CAPTURE")
-        .help("A classic libpcap file of Ethernet frames; - is standard input")
+        .help("A capture of Ethernet frames, pcapng or classic libpcap; - is standard input")
         .required(true)
 }
 
@@ -203,6 +213,13 @@ fn explain<'a>(alloc: Global) -> Result<Command<'a>, AllocError> {
         .arg(json(alloc))
 }
 
+fn convert<'a>(alloc: Global) -> Result<Command<'a>, AllocError> {
+    Command::new(alloc, "convert")
+        .about("Writes the packets of a pcapng file as a classic libpcap file to standard output")
+        .after_help(CONVERT_STATUSES)
+        .arg(capture(alloc))
+}
+
 fn command<'a>(alloc: Global) -> Result<Command<'a>, AllocError> {
     Command::new(alloc, "seatmelon")
         .bin_name("seatmelon")?
@@ -214,7 +231,8 @@ fn command<'a>(alloc: Global) -> Result<Command<'a>, AllocError> {
         .subcommand(draft(alloc)?)?
         .subcommand(show::command(alloc, capture(alloc))?)?
         .subcommand(explain(alloc)?)?
-        .subcommand(audit::command(alloc, capture(alloc))?)
+        .subcommand(audit::command(alloc, capture(alloc))?)?
+        .subcommand(convert(alloc)?)
 }
 
 // The numbers of the records that are left out, rising, each once.
@@ -335,6 +353,7 @@ fn request_in<'a>(alloc: Global, matches: &ArgMatches<'a>) -> Result<Option<Requ
         "audit" => Ok(Some(Request::Audit(audit::auditing_in(alloc, inner, capture)?))),
         "show" => Ok(show::showing_in(alloc, inner, capture)?.map(Request::Show)),
         "explain" => Ok(explaining_in(alloc, inner, capture)?),
+        "convert" => Ok(Some(Request::Convert { capture })),
         _ => Ok(drafting_in(inner, capture)),
     }
 }

@@ -1,24 +1,60 @@
-use Rattle.std.proofs.Common.{ltb, leb, rules, arith, sym, subst}
-use Rattle.std.proofs.lemmas.List.Sorted.{IsPartitionPoint-from_clause, IsPartitionedBy-leb, IsPartitionedBy-ltb}
-use Rattle.seatmelon_audit.specs.Ways.{AreSorted}
-use Rattle.seatmelon_audit.specs.declared.ways.Way.{Way}
-use Rattle.seatmelon_audit.proofs.Knowing.{empty_part, in_part}
+use Rattle.std.proofs.Common.{rules, ◌+◌, ◌-◌, length, ap, arith, sym, subst, take, drop}
+use Rattle.std.specs.List.{Contains}
+use Rattle.seatmelon_audit.specs.Hosts.{bucket_of}
+use Rattle.seatmelon_audit.proofs.Knowing.{begin_of, bucket_inside, empty_part, in_part, place_of}
 use Rattle.seatmelon_audit.proofs.ways.Ways.between.Goals as goal
 
+pub index-start-requires : goal.index-start-requires
+index-start-requires c =
+    let inside = bucket_inside c.args.hosts c.args.self.now.buckets c.args.self.now.some in
+    let size = c.args.self.now.size in omega (arith, inside, c.bucket_of-bucket.ensures, size)
+
+pub index-end-requires : goal.index-end-requires
+index-end-requires c =
+    let inside = bucket_inside c.args.hosts c.args.self.now.buckets c.args.self.now.some in
+    let size = c.args.self.now.size in omega (arith, inside, c.bucket_of-bucket.ensures, size)
+
+pub offset_bounds-deref-start : goal.offset_bounds-deref-start
+offset_bounds-deref-start c =
+    let ways = c.args.self.now in
+    let inside = bucket_inside c.args.hosts ways.buckets ways.some in
+    let few = place_of ways.sorted.items ways.starts.items c.bucket_of-bucket.result c.index-start.result.now ways.within
+    (let size = ways.size in omega (arith, inside, c.bucket_of-bucket.ensures, size)) c.index-start.ensures in
+    let same = ap length c.deref.ensures.value in
+    search (rules, few, same)
+
+pub slice_bounds-result-end : goal.slice_bounds-result-end
+slice_bounds-result-end c =
+    let ways = c.args.self.now in
+    let inside = bucket_inside c.args.hosts ways.buckets ways.some in
+    let few = place_of ways.sorted.items ways.starts.items (c.bucket_of-bucket.result + 1) c.index-end.result.now ways.within
+    (let size = ways.size in omega (arith, inside, c.bucket_of-bucket.ensures, size)) c.index-end.ensures in
+    let same = ap length c.deref.ensures.value in
+    search (rules, few, same)
+
 pub returns-then-start-end : goal.returns-then-start-end
-returns-then-start-end c =
-    let hosts = c.args.hosts in
-    let below = IsPartitionPoint-from_clause (λ (w : Way). ltb w.hosts hosts) _ _ c.partition_point-start.ensures.partitioned
-    (IsPartitionedBy-ltb (λ (w : Way). w.hosts) _ hosts (subst AreSorted (sym c.deref.ensures.value) c.args.self.now.order)) (λ a r q k. search rules) in
-    let upto = IsPartitionPoint-from_clause (λ (w : Way). leb w.hosts hosts) _ _ c.partition_point-end.ensures.partitioned
-    (IsPartitionedBy-leb (λ (w : Way). w.hosts) _ hosts (subst AreSorted (sym c.deref-2.ensures.value) c.args.self.now.order)) (λ a r q k. search rules) in
-    in_part c.args.self.now.sorted.items c.deref.result.now c.deref-2.result.now c.deref-then-start-end.result.now hosts _ _ c.deref.ensures.value c.deref-2.ensures.value c.deref-then-start-end.ensures.value below upto
+returns-then-start-end c w is h =
+    let ways = c.args.self.now in
+    let bucket = c.bucket_of-bucket.result in
+    let same = c.bucket_of-bucket.ensures in
+    let inside = bucket_inside c.args.hosts ways.buckets ways.some in
+    let size = ways.size in
+    let lower = begin_of ways.buckets ways.sorted.items ways.starts.items bucket (bucket_of c.args.hosts ways.buckets) c.index-start.result.now ways.order same
+    (omega (arith, inside, same, size)) c.index-start.ensures in
+    let upper = begin_of ways.buckets ways.sorted.items ways.starts.items (bucket + 1) (bucket_of c.args.hosts ways.buckets + 1) c.index-end.result.now ways.order (ap (λ n. n + 1) same)
+    (omega (arith, inside, same, size)) c.index-end.ensures in
+    subst (λ l. Contains (take (c.index-end.result.now - c.index-start.result.now) (drop c.index-start.result.now l)) w) (sym c.deref.ensures.value)
+    (in_part ways.buckets ways.sorted.items c.args.hosts c.index-start.result.now c.index-end.result.now lower upper w is h)
 
 pub returns-else-start-end : goal.returns-else-start-end
-returns-else-start-end c =
-    let hosts = c.args.hosts in
-    let below = IsPartitionPoint-from_clause (λ (w : Way). ltb w.hosts hosts) _ _ c.partition_point-start.ensures.partitioned
-    (IsPartitionedBy-ltb (λ (w : Way). w.hosts) _ hosts (subst AreSorted (sym c.deref.ensures.value) c.args.self.now.order)) (λ a r q k. search rules) in
-    let upto = IsPartitionPoint-from_clause (λ (w : Way). leb w.hosts hosts) _ _ c.partition_point-end.ensures.partitioned
-    (IsPartitionedBy-leb (λ (w : Way). w.hosts) _ hosts (subst AreSorted (sym c.deref-2.ensures.value) c.args.self.now.order)) (λ a r q k. search rules) in
-    λ w is h. absurd (empty_part c.args.self.now.sorted.items c.deref.result.now c.deref-2.result.now hosts _ _ c.deref.ensures.value c.deref-2.ensures.value below upto (omega (arith, c.if-start-end.false)) w is h)
+returns-else-start-end c w is h =
+    let ways = c.args.self.now in
+    let bucket = c.bucket_of-bucket.result in
+    let same = c.bucket_of-bucket.ensures in
+    let inside = bucket_inside c.args.hosts ways.buckets ways.some in
+    let size = ways.size in
+    let lower = begin_of ways.buckets ways.sorted.items ways.starts.items bucket (bucket_of c.args.hosts ways.buckets) c.index-start.result.now ways.order same
+    (omega (arith, inside, same, size)) c.index-start.ensures in
+    let upper = begin_of ways.buckets ways.sorted.items ways.starts.items (bucket + 1) (bucket_of c.args.hosts ways.buckets + 1) c.index-end.result.now ways.order (ap (λ n. n + 1) same)
+    (omega (arith, inside, same, size)) c.index-end.ensures in
+    absurd (empty_part ways.buckets ways.sorted.items c.args.hosts c.index-start.result.now c.index-end.result.now lower upper (omega (arith, c.if-start-end.false)) w is h)

@@ -1,5 +1,5 @@
 use Rattle.std.proofs.Common.{◌∙◌, sym}
-use Rattle.seatmelon_pcapng.proofs.Formats.{converted-begins, left-behind, noted-behind, plain-begins}
+use Rattle.seatmelon_pcapng.proofs.Formats.{converted-begins, known-kept, plain-begins}
 use Rattle.seatmelon_pcapng.proofs.Passing.{IfSome-is}
 use Rattle.seatmelon_pcapng.proofs.capture.Capture.open.Goals as goal
 
@@ -11,11 +11,7 @@ returns-then-not-is_pcapng-clause-noted g c = IfSome-is _ (g.S.Source.remaining 
 
 pub returns-clause-noted : goal.returns-clause-noted
 returns-clause-noted g c = IfSome-is _ (g.S.Source.remaining c.args.source) (λ file is none.
-    let remaining = g.S.Source.remaining in
-    let notes = g.S.Source.notes in
     let peeked = c.in_ok-peeked in
-    let source = c.in_ok-source in
-    let left = left-behind remaining notes source.source peeked.peeked source.ensures.source source.ensures.empty file (rw is at peeked.ensures.left) in
-    let noted = noted-behind remaining notes source.source peeked.peeked source.ensures.source source.ensures.empty (peeked.ensures.noted none) in
-    converted-begins remaining notes c.in_ok-new.field-0 file ((rw left at c.in_ok-new.ensures.noted) noted)
+    let left = known-kept file _ (rw is at peeked.ensures.left) in
+    converted-begins g.S.Source.remaining g.S.Source.notes c.in_ok-new.field-0 file ((rw left at c.in_ok-new.ensures.noted) (peeked.ensures.noted none))
     (sym (rw is at peeked.ensures.told) ∙ sym c.is_pcapng.ensures ∙ c.if-not-is_pcapng.false))

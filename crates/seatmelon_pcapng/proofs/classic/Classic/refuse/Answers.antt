@@ -1,4 +1,4 @@
-use Rattle.std.proofs.Common.{◌≡◌, ◌∙◌, [], ◌∷◌, sym}
+use Rattle.std.proofs.Common.{◌≡◌, ◌∙◌, [], ◌∷◌, ◌++◌, ap, sym}
 use Rattle.std.specs.Io.KnownBytes.{prepend_known}
 use Rattle.seatmelon_pcapng.specs.Memory.{bytes_held, bytes_of}
 use Rattle.seatmelon_pcapng.specs.Sections.{interfaces_in, order_in}
@@ -10,13 +10,14 @@ pub returns-clause-left : goal.returns-clause-left
 returns-clause-left g c =
     let old = c.args.self.now in
     let mark : bytes_held c.put.new.self ≡ 0 ∷ [] =
-    not_err_so c.put.result (bytes_held c.put.new.self ≡ 0 ∷ []) c.put.ensures.held (sym c.is_err.ensures.value ∙ c.if-is_err.false) in
+    not_err_so c.put.result (bytes_held c.put.new.self ≡ bytes_held old.held ++ (0 ∷ [])) c.put.ensures.held (sym c.is_err.ensures.value ∙ c.if-is_err.false)
+    ∙ ap (λ l. l ++ (0 ∷ [])) c.requires.none in
     left-refused (order_in old.section) (interfaces_in old.section) old.at (bytes_held old.held) c.requires.none
-    (prepend_known (bytes_of old.block) (g.S.Source.remaining old.source)) old.progress c.args.reason (bytes_held c.put.new.self) c.requires.reading c.requires.next mark
+    (prepend_known (bytes_of old.blocks) (g.S.Source.remaining old.source)) old.progress c.args.reason (bytes_held c.put.new.self) c.requires.reading c.requires.next mark
 
 pub returns-clause-refusal : goal.returns-clause-refusal
 returns-clause-refusal g c =
     let old = c.args.self.now in
-    let known = prepend_known (bytes_of old.block) (g.S.Source.remaining old.source) in
+    let known = prepend_known (bytes_of old.blocks) (g.S.Source.remaining old.source) in
     refusal-met (order_in old.section) (interfaces_in old.section) old.at known old.progress c.args.reason
     c.requires.reading c.requires.next

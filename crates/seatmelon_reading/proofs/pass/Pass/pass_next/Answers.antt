@@ -9,7 +9,7 @@ returns-then-contains-clause-told c records q noted before holds is timed r e =
     let left_out : is_left_out c.args.self.now.without.now c.args.record.now.number ≡ true = search rules in
     let p = c.args.self.now.params in
     let without = c.args.self.now.without.now in
-    still_true p without records q r (left_out_same p without records q c.args.record.now.number c.args.record.now.bytes.now is left_out) (holds r e)
+    still_true c.args.self.now.notes.zero_is_no_time p without records q r (left_out_same p without records q c.args.record.now.number c.args.record.now.bytes.now is left_out) (holds r e)
 
 pub returns-clause-told : goal.returns-clause-told
 returns-clause-told c =

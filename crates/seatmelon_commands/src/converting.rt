@@ -1,0 +1,138 @@
+//! The command `convert`.
+ghost use Rattle.std.specs.Prelude.{◌≡◌, ◌⊎◌, ◌≤◌, [], None, IfErr, IfOk, IfSome, IsSome};
+ghost use Rattle.std.specs.Io.KnownBytes.{Appends};
+ghost use Rattle.rasta_pcap.specs.Fault.{no_memory, read_failed, write_failed};
+ghost use Rattle.seatmelon_pcapng.specs.Formats.{capture_of, format_of, refusal_told};
+ghost use Rattle.seatmelon_commands.specs.Failing.{status_of};
+
+use crate::failure::Failure;
+use crate::output::{STANDARD_OUTPUT, failed, finish, output_to};
+use crate::reading::{BUFFER, STANDARD_INPUT, unread};
+use crate::watched::Watched;
+use rasta_pcap::{Counted, Fault, Sink, Source, write_all};
+use seatmelon_pcapng::{Capture, Format, Refusal};
+use std::alloc::Global;
+use std::fs::File;
+use std::io;
+use std::io::{Input, Read, Write};
+use std::rt::Files;
+
+// Writes the classic capture of what a source gives, a file in either format, all of it, by large pieces. Answers the
+// file's format. The source is taken whole: a capture isn't opened over a reader that is borrowed here.
+fn convert_source<S: Source, W: Sink>(
+    alloc: Global,
+    source: S,
+    writer: &mut W,
+) -> Result<Format, Fault>
+where
+    S: Drop,
+    ensures written { IfSome (S.remaining source) (λ file. IfOk result (λ _. Appends (W.contents writer.old) (W.contents writer.new) (capture_of file))) }
+    ensures format { IfSome (S.remaining source) (λ file. S.notes source [] → IfOk result (λ f. f ≡ format_of file)) }
+    ensures err { IfErr result (λ f. (f ≡ no_memory) ⊎ ((f ≡ read_failed) ⊎ (f ≡ write_failed))) }
+{
+    let mut capture = Capture::open(alloc, source)?;
+    let mut buffer = Vec::new(alloc);
+    buffer.resize(BUFFER, 0)?;
+    for _ in 0..u64::MAX {
+        let Ok(n) = capture.read(&mut buffer) else {
+            return Err(capture.fault_met(Fault::at(Fault::READ_FAILED, 0)));
+        };
+        if n == 0 {
+            return Ok(capture.format());
+        }
+        write_all(writer, &buffer[..n])?;
+    }
+    // No file has so many bytes.
+    Err(Fault::at(Fault::READ_FAILED, 0))
+}
+
+/// Writes the classic capture of what a reader gives, a file in either format, all of it, by large pieces. Answers the
+/// file's format.
+///
+/// Refused by [`Fault::NO_MEMORY`], [`Fault::READ_FAILED`] and [`Fault::WRITE_FAILED`] alone: a capture of a pcapng file that
+/// is refused is written up to there, and ends inside its next record.
+pub fn convert<R: Source, W: Sink>(
+    alloc: Global,
+    reader: &mut R,
+    writer: &mut W,
+) -> Result<Format, Fault>
+    ensures written { IfSome (R.remaining reader.old) (λ file. IfOk result (λ _. Appends (W.contents writer.old) (W.contents writer.new) (capture_of file))) }
+    ensures format { IfSome (R.remaining reader.old) (λ file. R.notes reader.old [] → IfOk result (λ f. f ≡ format_of file)) }
+    ensures err { IfErr result (λ f. (f ≡ no_memory) ⊎ ((f ≡ read_failed) ⊎ (f ≡ write_failed))) }
+{
+    convert_source(alloc, reader, writer)
+}
+
+/// Writes the classic capture of what a reader gives, a file in either format, to a device, all of it; `path` is the file's
+/// name in the failure. Answers the file's format.
+pub fn convert_of<D: Read + Drop, W: Write + Drop>(
+    alloc: Global,
+    path: &str,
+    file: D,
+    device: W,
+) -> Result<Format, Failure>
+    ensures format { IfSome (D.remaining file) (λ bytes. IfOk result (λ f. f ≡ format_of bytes)) }
+    ensures err { IfErr result (λ failure. status_of failure ≡ 3) }
+{
+    let mut source = Counted::new(Watched::new(file));
+    let mut output = output_to(alloc, device)?;
+    match convert(alloc, &mut source, &mut output) {
+        Ok(format) => {
+            finish(alloc, STANDARD_OUTPUT, output, Ok(()))?;
+            Ok(format)
+        }
+        Err(fault) => {
+            let reader = source.into_inner();
+            let (writer, _) = output.into_inner().into_parts();
+            Err(failed(alloc, path, fault, reader.error(), writer.error()))
+        }
+    }
+}
+
+// Converts the file of that path; `-` is standard input.
+fn convert_at<R: AllocGlobal + Files + Input + Print>(rt: &R, path: &str) -> Result<Format, Failure>
+    ensures { IfErr result (λ failure. status_of failure ≡ 3) }
+{
+    let (alloc, device) = (rt.alloc(), io::writer(rt));
+    if path == STANDARD_INPUT {
+        return convert_of(alloc, path, rt.reader(), device);
+    }
+    match File::open(rt, path) {
+        Ok(file) => convert_of(alloc, path, file, device),
+        Err(error) => Err(unread(alloc, path, Some(error))),
+    }
+}
+
+// Tells on standard error why a file was converted up to there alone.
+fn tell_refusal<R: Eprint>(rt: &R, path: &str, refusal: Refusal) {
+    let Refusal { reason, at } = refusal;
+    let words = reason.words();
+    // Where standard error fails too, the status alone tells.
+    let _ = eprintln!(rt;
+        "seatmelon: {path}: at byte {at}: {words}\nonly the packets before that were converted"
+    );
+}
+
+/// The program's status after a conversion: 1 where the file is refused.
+pub fn status_of_format(format: Format) -> u8
+    ensures refused { IsSome (refusal_told format) → result ≡ 1 }
+    ensures whole { refusal_told format ≡ None → result ≡ 0 }
+{
+    u8::from(format.refusal().is_some())
+}
+
+/// Writes the classic capture of the file of that path to standard output; a classic capture is written as it is. Answers
+/// the program's status: it is 1 where the file is refused behind some packets, which standard error is told.
+pub fn convert_file<R: AllocGlobal + Files + Input + Print + Eprint>(
+    rt: &R,
+    path: &str,
+) -> Result<u8, Failure>
+    ensures ok { IfOk result (λ status. status ≤ 1) }
+    ensures err { IfErr result (λ failure. status_of failure ≡ 3) }
+{
+    let format = convert_at(rt, path)?;
+    if let Some(refusal) = format.refusal() {
+        tell_refusal(rt, path, refusal);
+    }
+    Ok(status_of_format(format))
+}
