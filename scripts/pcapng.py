@@ -179,11 +179,12 @@ def told_by_tshark(path):
             yield int(seconds) * 1_000_000_000 + int(f"{fraction:0<9}"[:9]), int(captured), int(original), int(kind)
 
 
-def frames_by_tshark(path, room):
-    """The bytes of each packet, as tshark copies them, of a file of Ethernet frames alone."""
-    copy = room / "copy.pcap"
-    tool("tshark", "-n", "-r", path, "-F", "nsecpcap", "-w", copy)
-    return [frame for *_, frame in classic(copy.read_bytes())]
+def frames_by_tshark(path):
+    """The bytes of each packet that has an encapsulation, as tshark reads them."""
+    words = ["tshark", "-n", "-r", str(path), "-T", "json", "-x", "-J", "frame"]
+    told = json.loads(subprocess.run(words, check=True, capture_output=True, text=True).stdout)
+    layers = [packet["_source"]["layers"] for packet in told]
+    return [bytes.fromhex(layer["frame_raw"][0]) for layer in layers if "frame.encap_type" in layer["frame"]]
 
 
 def same_records(part, path):
@@ -196,7 +197,7 @@ def same_records(part, path):
         right = right and full == original and seconds * 1_000_000_000 + nanoseconds == moment
         right = right and length == (captured if kind == 1 else 0)
     if right and all(kind == 1 for *_, kind in told):
-        right = [frame for *_, frame in found] == frames_by_tshark(path, part.folder)
+        right = [frame for *_, frame in found] == frames_by_tshark(path)
     part.judge(f"records of {path.name}", right, (ran.returncode, ran.stderr, len(found), len(told)))
     return ran.stdout
 
@@ -219,9 +220,13 @@ def plain(text, path, copy):
 
 def untimed(text):
     """A text without times, where packets have none."""
+    if text.startswith("{"):
+        told = json.loads(text)
+        for name in ("times", "packets_without_time"):
+            told.pop(name, None)
+        text = json.dumps(told, separators=(",", ":"))
     text = re.sub(r"(, )?(1970-01-01 )?00:00:00\.0{9}( UTC)?|, no time|\"1970-01-01 00:00:00.0{9} UTC\"|null", "", text)
-    text = re.sub(r"Times of capture, which no verdict reads:\n(  .*\n)*", "", text)
-    return re.sub(r',"times":\{.*?\}\}', "", re.sub(r'"packets_without_time":\d+,', "", text))
+    return re.sub(r"Times of capture, which no verdict reads:\n(  .*\n)*", "", text)
 
 
 def lacks_times(path):
