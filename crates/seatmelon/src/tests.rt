@@ -475,7 +475,8 @@ const BEHIND: &[u8] = b"\x7c\0\0\0\x06\0\0\0\x7c\0\0\0";
 // The pcapng file, up to there.
 fn pcapng(alloc: Global, behind: &[u8]) -> Option<Vec<u8>> {
     let mut file = Vec::from_slice(alloc, FRONT).ok()?;
-    file.extend_from_slice(&ONE_REQUEST[40..]).ok()?;
+    let request: &[u8] = ONE_REQUEST;
+    file.extend_from_slice(request.get(40..)?).ok()?;
     file.extend_from_slice(behind).ok()?;
     Some(file)
 }
@@ -530,7 +531,8 @@ const CONVERTED: &[u8; 24] = b"\x4d\x3c\xb2\xa1\x02\0\x04\0\0\0\0\0\0\0\0\0\0\0\
 fn is_converted_in_front(alloc: Global) -> Option<bool> {
     let file = pcapng(alloc, BEHIND)?;
     let mut wanted = Vec::from_slice(alloc, CONVERTED).ok()?;
-    wanted.extend_from_slice(&ONE_REQUEST[24..]).ok()?;
+    let request: &[u8] = ONE_REQUEST;
+    wanted.extend_from_slice(request.get(24..)?).ok()?;
     wanted.push(0).ok()?;
     let whole = conversion(alloc, file.as_slice())?;
     let pieces = conversion(alloc, Pieces::new(&file, 7))?;
