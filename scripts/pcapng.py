@@ -211,11 +211,11 @@ def records(part):
 
 
 def plain(text, path, copy):
-    """A text without what may differ: names and sums, that the file was read as pcapng, and that packets have no time."""
+    """A text without what may differ: names and sums, that the file was read as pcapng, and the link type of an interface."""
     text = text.replace(str(path), "FILE").replace(str(copy), "FILE")
-    text = re.sub(r"(capture: FILE\n    SHA-256: )[0-9a-f]{64}\n(    read as pcapng\n)?", r"\1SUM\n", text)
+    text = re.sub(r"(capture: FILE\n    SHA-256: )[0-9a-f]{64}\n(    read as pcapng.*\n)?", r"\1SUM\n", text)
     text = re.sub(r'("name":"FILE","sha256":")[0-9a-f]{64}"(,"format":"pcapng")?', r'\1SUM"', text)
-    return text
+    return re.sub(r',"other_link_type":\d+', "", re.sub(r"(?m)^an interface of this file has link type .*\n", "", text))
 
 
 def untimed(text):
@@ -233,9 +233,19 @@ def lacks_times(path):
     return any(moment == 0 for moment, *_ in told_by_tshark(path))
 
 
+def has_others(path):
+    """Whether a packet isn't one of Ethernet."""
+    return any(kind != 1 for *_, kind in told_by_tshark(path))
+
+
+def tells_others(text):
+    """Whether a text names a link type other than that of Ethernet."""
+    return bool(re.search(r'interface of (this file|it) has link type \d|"other_link_type":\d', text))
+
+
 def same_texts(part, path, copy, parameters):
     """Compares what is said of a file with what is said of its classic capture."""
-    lacking = lacks_times(path)
+    lacking, others = lacks_times(path), has_others(path)
     for words in (
         ("survey",), ("draft", "1"), ("show", parameters), ("explain", parameters), ("explain", "--whole", parameters),
         ("explain", "--json", parameters), ("audit", parameters), ("audit", "--json", parameters),
@@ -249,6 +259,7 @@ def same_texts(part, path, copy, parameters):
             one, other = untimed(one), untimed(other)
         right = (newer[0], one, newer[2]) == (older[0], other, older[2])
         right = right and (command != "explain" or "pcapng" in newer[1])
+        right = right and (command in ("draft", "show") or tells_others(newer[1]) == others) and not tells_others(older[1])
         part.judge(f"{command} {path.name}", right, newer + older)
 
 

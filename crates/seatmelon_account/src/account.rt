@@ -83,7 +83,7 @@ pub struct Account<'a> {
     /// The header of the capture; none where its file is shorter, or begins with no magic number.
     pub header: Option<FileHeader>,
 
-    /// In which format the capture was read, and why it is refused, if it is a pcapng file that is.
+    /// In which format the capture was read, and what is told of a pcapng file beside its packets.
     pub format: Format,
 
     /// By what is judged.

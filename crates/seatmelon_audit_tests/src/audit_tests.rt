@@ -3,7 +3,7 @@ use crate::cases::{Case, GREAT_JSON, GREAT_TEXT, Given, MARK, audits, case_in, i
 use rasta_pcap::devices::{FailAt, Pieces, WriteDevice};
 use rasta_pcap::{Counted, Fault, Sink, Source};
 use seatmelon_audit::{Answer, Audit, Conveyed, Explained, audit};
-use seatmelon_pcapng::{Format, Reason, Refusal};
+use seatmelon_pcapng::{Format, Reason, Refusal, Remarks};
 use seatmelon_tally::{status_of, write_audit, write_audit_json};
 use std::alloc::Global;
 use std::process::Abort;
@@ -141,7 +141,8 @@ fn great_counts_and_no_memory(rt: HostRuntime) {
     assert_eq!(rt; is_great_told(rt.alloc()), Some(true));
 }
 
-// What is written in a form on an audit of no connections, whose pcapng file is refused at a block behind its first record.
+// What is written in a form on an audit of no connections, whose pcapng file has a packet of another link type than
+// Ethernet's, and is refused at a block behind its first record.
 fn text_on_refused(alloc: Global, form: Form) -> Option<Vec<u8>> {
     let audit = Audit {
         answers: Vec::new(alloc),
@@ -149,22 +150,27 @@ fn text_on_refused(alloc: Global, form: Form) -> Option<Vec<u8>> {
         others: 1,
         fault: Some(Fault::at(Fault::CUT_RECORD, 2)),
     };
-    let format = Format::Pcapng(Some(Refusal {
-        reason: Reason::Trailer,
-        at: 60,
-    }));
+    let format = Format::Pcapng(Remarks {
+        refusal: Some(Refusal {
+            reason: Reason::Trailer,
+            at: 60,
+        }),
+        other_link_type: Some(276),
+    });
     let mut writer = Counted::new(Vec::new(alloc));
     write_in(form, &mut writer, &[], &audit, format).ok()?;
     Some(writer.into_inner())
 }
 
 const REFUSED_TEXT: &str =
-    "after 1 record, at byte 60: the two lengths of a block differ (14 CutRecord)\n\
+    "an interface of this file has link type 276 (Linux cooked capture v2): its packets are of no connection\n\
+    after 1 record, at byte 60: the two lengths of a block differ (14 CutRecord)\n\
     0 connections; 0 packets; 1 record of none of them\n";
 
 const REFUSED_JSON: &str = "{\"connections\":[],\"records\":1,\"packets\":0,\"others\":1,\
     \"fault\":{\"number\":14,\"name\":\"CutRecord\",\"record\":2,\
-    \"block\":{\"offset\":60,\"reason\":\"the two lengths of a block differ\"}}}\n";
+    \"block\":{\"offset\":60,\"reason\":\"the two lengths of a block differ\"}},\
+    \"other_link_type\":276}\n";
 
 // Whether the refusal of a file is told so in a form.
 fn is_refusal_told(alloc: Global, form: Form, text: &str) -> Option<bool> {

@@ -116,7 +116,7 @@ pub fn survey_of<D: Read + Drop>(
     ensures refused { IfSome (D.remaining file) (λ bytes. IfErr result (TellsHeaderOf bytes)) }
     ensures header { IfSome (D.remaining file) (λ bytes. IfOk result (λ s. IsHeaderOf bytes (header_of s))) }
 
-    // The format is that of the file, and a refusal that is told is its refusal.
+    // The format is that of the file, and a refusal and a link type that are told are the file's.
     ensures format { IfSome (D.remaining file) (λ bytes. IfOk result (λ s. FormatFits bytes (format_of_survey s))) }
 {
     let mut file = Watched::new(file);

@@ -1,5 +1,5 @@
 -- The classic capture of a file has its packets as records.
-use Rattle.std.proofs.Common.{◌≡◌, ◌∙◌, ℕ, zero, suc, ◌+◌, ◌-◌, ◌^◌, ◌<◌, ◌≤◌, List, [], ◌∷◌, ◌++◌, append_assoc, length, length-append, length-take, le_refl, take, drop, drop_at, map, min, Option, None, Some, Result, Ok, Err, IfOk, Bool, true, false, nat_lt, nat_le, nat_eq, cond, refl, ap, sym, inl, inr, slice_range, arith}
+use Rattle.std.proofs.Common.{◌≡◌, ◌∙◌, ℕ, zero, suc, ◌+◌, ◌-◌, ◌^◌, ◌<◌, ◌≤◌, List, [], ◌∷◌, ◌++◌, append_assoc, length, length-append, length-take, take, drop, drop_at, map, min, Option, None, Some, Result, Ok, Err, IfOk, Bool, true, false, nat_lt, nat_le, nat_eq, cond, refl, ap, sym, inl, inr, slice_range, arith}
 use Rattle.std.specs.Prelude.{⊤, slice_get}
 use Rattle.std.specs.List.{AllByRecursion, flat_map}
 use Rattle.std.proofs.lemmas.Bool.{ltb-false}
@@ -11,11 +11,12 @@ use Rattle.rasta_pcap.specs.Capture.{Entry, IsCapture, IsEntry, IsHeader, IsRefu
 use Rattle.rasta_pcap.specs.Fault.{cut_record, fault_at, too_many}
 use Rattle.rasta_pcap.specs.declared.fault.Fault.{Fault}
 use Rattle.rasta_pcap.specs.declared.pcap.Endianness.TheVariants as ends
-use Rattle.seatmelon_pcapng.specs.Blocks.{bounded_by, enhanced_packet, ethernet, front_of, full_turn, has_version, interface_description, most_captured, most_interfaces, obsolete_packet, packet_turn, section_header, simple_packet, simple_turn, stamp_in, told_length, turn_by, turn_of}
+use Rattle.seatmelon_pcapng.specs.Blocks.{bounded_by, enhanced_packet, ethernet, front_of, full_turn, has_version, interface_description, most_captured, most_interfaces, obsolete_packet, packet_of, packet_turn, section_header, simple_packet, simple_turn, stamp_in, turn_by, turn_of}
 use Rattle.seatmelon_pcapng.specs.Moments.{moment_at, no_moment}
 use Rattle.seatmelon_pcapng.specs.Orders.{field}
-use Rattle.seatmelon_pcapng.specs.Readings.{Next, Packet, Reading, State, by_front, by_turn, classic_of, front_bytes, header_bytes, mark_of, next_of, packet_bytes, packets_in, read_step, reading_from, reading_of, state_after}
+use Rattle.seatmelon_pcapng.specs.Readings.{Next, Packet, Reading, State, by_front, by_turn, classic_of, front_bytes, header_bytes, mark_of, next_of, packet_bytes, packet_in, packets_in, read_step, reading_from, reading_of, state_after}
 use Rattle.seatmelon_pcapng.specs.Readings.Next.{ended, refused, goes}
+use Rattle.seatmelon_pcapng.specs.declared.block.Found.{Found}
 use Rattle.seatmelon_pcapng.specs.declared.block.Turn.{Turn}
 use Rattle.seatmelon_pcapng.specs.declared.block.Turn.TheVariants as turns
 use Rattle.seatmelon_pcapng.specs.declared.front.Front.{Front}
@@ -32,26 +33,28 @@ abbrev IsShort : Turn → Type 0
 IsShort turns.Section = ⊤
 IsShort (turns.Interface i) = ⊤
 IsShort (turns.Packet found) = found.end ≤ found.start + most_captured
+IsShort (turns.Foreign found link_type) = found.end ≤ found.start + most_captured
 IsShort turns.Other = ⊤
 
 either : (b : Bool) (x y : Result Turn Reason) → IfOk x IsShort → IfOk y IsShort → IfOk (cond b x y) IsShort
 either true x y h k = h
 either false x y h k = k
 
-told_by-le : (is : Bool) (n : ℕ) → cond is n 0 ≤ n
-told_by-le true n = le_refl n
-told_by-le false n = omega arith
+-- nothing is told of a packet that isn't one of Ethernet
+told-short : (is : Bool) (found : Found) (link_type : ℕ) → found.end ≤ found.start + most_captured
+    → IsShort (cond is (turns.Packet found) (turns.Foreign (record found { end = found.start }) link_type))
+told-short true found link_type h = h
+told-short false found link_type h = omega arith
 
 packet_turn-short : (i : Interface) (moment : Moment) (original captured start room : ℕ) → IfOk (packet_turn i moment original captured start room) IsShort
 packet_turn-short i moment original captured start room = either (nat_lt room captured) (Err reasons.CapturedBeyond) _ tt (by (nat_lt most_captured captured) refl)
   where
     by : (long : Bool) → nat_lt most_captured captured ≡ long → IfOk (cond long (Err reasons.CapturedTooLong)
-        (Ok (turns.Packet (record { moment = moment; original = original; start = start; end = start + told_length i captured })))) IsShort
+        (Ok (packet_of i (record { moment = moment; original = original; start = start; end = start + captured })))) IsShort
     by true e = tt
     by false e =
         let few : captured ≤ most_captured = ltb-false most_captured captured e in
-        let told : told_length i captured ≤ captured = told_by-le (nat_eq i.link_type ethernet) captured in
-        omega (arith, few, told)
+        told-short (nat_eq i.link_type ethernet) (record { moment = moment; original = original; start = start; end = start + captured }) i.link_type (omega (arith, few))
 
 full_turn-short : (order : Order) (i : Option Interface) (block : List ℕ) → IfOk (full_turn order i block) IsShort
 full_turn-short order None block = tt
@@ -102,13 +105,17 @@ next_of-short s =
 abbrev HasFew : Packet → Type 0
 HasFew p = length p.bytes ≤ most_captured
 
+packet-few : (block : List ℕ) (found : Found) → found.end ≤ found.start + most_captured → HasFew (packet_in block found)
+packet-few block found h =
+    let size : length (slice_range block found.start found.end) ≡ min (found.end - found.start) (length (drop found.start block)) =
+    length-take (found.end - found.start) (drop found.start block) in
+    omega (arith, size, h)
+
 packets_in-few : (block : List ℕ) (turn : Turn) (more : List Packet) → IsShort turn → AllByRecursion HasFew more → AllByRecursion HasFew (packets_in block turn ++ more)
 packets_in-few block turns.Section more h k = k
 packets_in-few block (turns.Interface i) more h k = k
-packets_in-few block (turns.Packet found) more h k =
-    let size : length (slice_range block found.start found.end) ≡ min (found.end - found.start) (length (drop found.start block)) =
-    length-take (found.end - found.start) (drop found.start block) in
-    (omega (arith, size, h), k)
+packets_in-few block (turns.Packet found) more h k = (packet-few block found h, k)
+packets_in-few block (turns.Foreign found link_type) more h k = (packet-few block found h, k)
 packets_in-few block turns.Other more h k = k
 
 read_step-few : (s : State) (n : Next) (more : Reading) → IsShortNext n → AllByRecursion HasFew more.packets → AllByRecursion HasFew (read_step s n more).packets

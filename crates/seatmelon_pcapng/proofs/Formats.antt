@@ -4,7 +4,7 @@ use Rattle.std.specs.Io.KnownBytes.{Consumes, IsAtEnd, Keeps, ReadConsumes, prep
 use Rattle.std.proofs.KnownBytes.{Consumes-kept, Consumes-nil, Consumes-trans}
 use Rattle.rasta_pcap.specs.Noting.{NotesOn, given}
 use Rattle.seatmelon_pcapng.specs.Classics as classics
-use Rattle.seatmelon_pcapng.specs.Formats.{Gives, HasGiven, capture_of, format_in, format_of, left_in, noted_by}
+use Rattle.seatmelon_pcapng.specs.Formats.{Gives, HasGiven, capture_of, format_in, format_of, left_in, noted_by, other_told, refusal_told}
 use Rattle.seatmelon_pcapng.specs.Giving as giving
 use Rattle.seatmelon_pcapng.specs.Giving.{told_as}
 use Rattle.seatmelon_pcapng.specs.Peeked as peeked
@@ -15,9 +15,10 @@ use Rattle.seatmelon_pcapng.specs.declared.classic.Classic.{Classic}
 use Rattle.seatmelon_pcapng.specs.declared.format.Format.TheVariants as kinds
 use Rattle.seatmelon_pcapng.specs.declared.format.Format.TheVariants.{Pcapng}
 use Rattle.seatmelon_pcapng.specs.declared.peeked.Peeked.{Peeked}
-use Rattle.seatmelon_pcapng.specs.Readings.{classic_of, reading_of}
+use Rattle.seatmelon_pcapng.specs.Readings.{classic_of, reading_of, remarks_of}
 use Rattle.seatmelon_pcapng.specs.declared.refusal.Refusal.{Refusal}
-use Rattle.seatmelon_pcapng.proofs.Gives.{gives-ended, gives-refused, gives-told, told_apart}
+use Rattle.seatmelon_pcapng.specs.declared.remarks.Remarks.{Remarks}
+use Rattle.seatmelon_pcapng.proofs.Gives.{gives-other, gives-refused, gives-remarks, gives-told, told_apart}
 
 -- what a read gave is no longer left
 pub read-consumes : {E : Type 0} (old new : Option (List ℕ)) (r : Result ℕ E) (buf : List ℕ) → ReadConsumes old new r buf → Consumes old new (given r buf)
@@ -92,8 +93,8 @@ consumes-held whole held given (Some rest) h = h ∙ sym (append_assoc given hel
 captured-plain : (file : List ℕ) (b : Bool) → begins_pcapng file ≡ b → cond b (classic_of (reading_of file)) file ≡ capture_of file
 captured-plain file b e = ap (λ b. cond b (classic_of (reading_of file)) file) (sym e)
 
-told-so : (file : List ℕ) (b : Bool) → begins_pcapng file ≡ b → cond b (Pcapng (reading_of file).refusal) kinds.Classic ≡ format_of file
-told-so file b e = ap (λ (b : Bool). cond b (Pcapng (reading_of file).refusal) kinds.Classic) (sym e)
+told-so : (file : List ℕ) (b : Bool) → begins_pcapng file ≡ b → cond b (Pcapng (remarks_of (reading_of file))) kinds.Classic ≡ format_of file
+told-so file b e = ap (λ (b : Bool). cond b (Pcapng (remarks_of (reading_of file))) kinds.Classic) (sym e)
 
 module _ {S : Type 0} (remaining : S → Option (List ℕ)) (notes : S → List ℕ → Type 0) where
   gives-of : (c : Capture S) (file given : List ℕ) → HasGiven remaining notes c file given → Gives remaining notes c file given
@@ -124,21 +125,30 @@ module _ {S : Type 0} (remaining : S → Option (List ℕ)) (notes : S → List 
   format-ended : (c : Capture S) (file given : List ℕ) → HasGiven remaining notes c file given → IsAtEnd (left_in remaining c) → format_in c ≡ format_of file
   format-ended (Plain p) file given h end = told-so file false h.2
   format-ended (Converted c) file given h end =
-      ap (λ (r : Option Refusal). Pcapng r) (gives-ended (peeked.left_in remaining) (peeked.noted_by notes) c file given h.0 end) ∙ told-so file true h.1
+      ap (λ (r : Remarks). Pcapng r) (gives-remarks (peeked.left_in remaining) (peeked.noted_by notes) c file given h.0 end) ∙ told-so file true h.1
 
   -- once all was given, the format that is told is that of the file
   pub capture-ended : (c : Capture S) (file given : List ℕ) → noted_by remaining notes c (told_as file ++ given) → IsAtEnd (left_in remaining c) → format_in c ≡ format_of file
   capture-ended c file given h = format-ended c file given (has_given-told c file given h)
 
-  refusal-met : (c : Capture S) (file given : List ℕ) (refusal : Refusal) → HasGiven remaining notes c file given → format_in c ≡ Pcapng (Some refusal)
-      → format_of file ≡ Pcapng (Some refusal)
+  refusal-met : (c : Capture S) (file given : List ℕ) (refusal : Refusal) → HasGiven remaining notes c file given → refusal_told (format_in c) ≡ Some refusal
+      → refusal_told (format_of file) ≡ Some refusal
   refusal-met (Plain p) file given refusal h is = absurd cc
   refusal-met (Converted c) file given refusal h is =
-      let met : classics.refusal_in c ≡ Some refusal = cc in
-      sym (told-so file true h.1)
-      ∙ ap (λ (r : Option Refusal). Pcapng r) (gives-refused (peeked.left_in remaining) (peeked.noted_by notes) c file given refusal h.0 met)
+      ap refusal_told (sym (told-so file true h.1)) ∙ gives-refused (peeked.left_in remaining) (peeked.noted_by notes) c file given refusal h.0 is
 
   -- a refusal that was met is that of the file
   pub capture-refused : (c : Capture S) (file given : List ℕ) (refusal : Refusal) → noted_by remaining notes c (told_as file ++ given)
-      → format_in c ≡ Pcapng (Some refusal) → format_of file ≡ Pcapng (Some refusal)
+      → refusal_told (format_in c) ≡ Some refusal → refusal_told (format_of file) ≡ Some refusal
   capture-refused c file given refusal h = refusal-met c file given refusal (has_given-told c file given h)
+
+  other-met : (c : Capture S) (file given : List ℕ) (link_type : ℕ) → HasGiven remaining notes c file given → other_told (format_in c) ≡ Some link_type
+      → other_told (format_of file) ≡ Some link_type
+  other-met (Plain p) file given link_type h is = absurd cc
+  other-met (Converted c) file given link_type h is =
+      ap other_told (sym (told-so file true h.1)) ∙ gives-other (peeked.left_in remaining) (peeked.noted_by notes) c file given link_type h.0 is
+
+  -- so is a link type
+  pub capture-other : (c : Capture S) (file given : List ℕ) (link_type : ℕ) → noted_by remaining notes c (told_as file ++ given)
+      → other_told (format_in c) ≡ Some link_type → other_told (format_of file) ≡ Some link_type
+  capture-other c file given link_type h = other-met c file given link_type (has_given-told c file given h)

@@ -1,42 +1,48 @@
 -- What a source of a classic capture has given of a file, and what it has noted of it.
-use Rattle.std.proofs.Common.{◌≡◌, ◌∙◌, ℕ, List, [], ◌∷◌, ◌++◌, append-nil, append_assoc, length, take, drop, Option, None, Some, option_map, ap, sym, refl, subst}
+use Rattle.std.proofs.Common.{◌≡◌, ◌∙◌, ℕ, List, [], ◌∷◌, ◌++◌, append-nil, append_assoc, length, take, drop, Option, None, Some, option_map, ap, sym, refl, subst, arith}
 use Rattle.std.specs.List.{flat_map}
+use Rattle.std.specs.Option.{option_or}
 use Rattle.std.specs.Io.KnownBytes.{Consumes, IsAtEnd}
 use Rattle.std.proofs.KnownBytes.{Consumes-nil, Consumes-trans}
 use Rattle.std.proofs.Math.Seq.{drop-append_seam, take-append_seam}
-use Rattle.rasta_pcap.specs.Noting.{PassesOn}
-use Rattle.seatmelon_pcapng.specs.Classics.{Stays, given_by, left_by, left_in, refusal_in, refusal_left, refusal_left_by, refusal_with, rest_in, source_of}
+use Rattle.std.proofs.lemmas.List.Concat.{flat_map-cons}
+use Rattle.byteorder.specs.Endian.{little_bytes}
+use Rattle.byteorder.specs.Numbers.{length-bytes_low_first}
+use Rattle.rasta_pcap.specs.Noting.{NotesOn, PassesOn}
+use Rattle.seatmelon_pcapng.specs.Classics.{Stays, given_by, left_by, left_in, refusal_in, remarks_in, remarks_left, remarks_left_by, remarks_with, rest_in, source_of, state_with}
 use Rattle.seatmelon_pcapng.specs.Giving.{Gives, noted_by, told_as}
 use Rattle.seatmelon_pcapng.specs.Memory.{bytes_held}
 use Rattle.seatmelon_pcapng.specs.Progress.{refusal_by}
-use Rattle.seatmelon_pcapng.specs.Readings.{Reading, classic_of, mark_of, packet_bytes, reading_left, reading_of, records_bytes}
-use Rattle.seatmelon_pcapng.specs.Sections.{interfaces_in, order_in}
+use Rattle.seatmelon_pcapng.specs.Readings.{Packet, Reading, behind, classic_of, front_bytes, mark_of, packet_bytes, reading_left, reading_of, records_bytes, remarks_of}
+use Rattle.seatmelon_pcapng.specs.Sections.{interfaces_in, order_in, other_met}
 use Rattle.seatmelon_pcapng.specs.declared.classic.Classic.{Classic}
 use Rattle.seatmelon_pcapng.specs.declared.classic.Progress.{Progress}
 use Rattle.seatmelon_pcapng.specs.declared.classic.Progress.TheVariants.{Going, Ended}
 use Rattle.seatmelon_pcapng.specs.declared.interface.Interface.{Interface}
 use Rattle.seatmelon_pcapng.specs.declared.order.Order.{Order}
 use Rattle.seatmelon_pcapng.specs.declared.refusal.Refusal.{Refusal}
+use Rattle.seatmelon_pcapng.specs.declared.remarks.Remarks.{Remarks}
+use Rattle.seatmelon_pcapng.proofs.Steps.{other-none}
 
-still : (old new : Option (Option Refusal)) (r : Option Refusal) → Stays old new → old ≡ Some r → new ≡ Some r
+still : (old new : Option Remarks) (r : Remarks) → Stays old new → old ≡ Some r → new ≡ Some r
 still old new r stays is = rw is at stays
 
 module _ {S : Type 0} (remaining : S → Option (List ℕ)) (notes : S → List ℕ → Type 0) where
   -- some bytes were read, and some given
   pub gives-more : (old new : Classic S) (file given more : List ℕ) → PassesOn remaining notes (source_of old) (source_of new)
-      → Consumes (left_in remaining old) (left_in remaining new) more → Stays (refusal_left remaining old) (refusal_left remaining new)
+      → Consumes (left_in remaining old) (left_in remaining new) more → Stays (remarks_left remaining old) (remarks_left remaining new)
       → Gives remaining notes old file given → Gives remaining notes new file (given ++ more)
   gives-more old new file given more passed bytes stays g = record {
     read = g.read ++ passed.0;
     noted = passed.2 g.read g.noted;
     passed = Consumes-trans (Some file) (remaining (source_of old)) (remaining (source_of new)) g.read passed.0 g.passed passed.1;
     left = Consumes-trans (Some (classic_of (reading_of file))) (left_in remaining old) (left_in remaining new) given more g.left bytes;
-    refusal = still (refusal_left remaining old) (refusal_left remaining new) (reading_of file).refusal stays g.refusal;
+    remarks = still (remarks_left remaining old) (remarks_left remaining new) (remarks_of (reading_of file)) stays g.remarks;
   }
 
   -- and that is noted
   pub noted-more : (old new : Classic S) (more : List ℕ) → PassesOn remaining notes (source_of old) (source_of new)
-      → Consumes (left_in remaining old) (left_in remaining new) more → Stays (refusal_left remaining old) (refusal_left remaining new)
+      → Consumes (left_in remaining old) (left_in remaining new) more → Stays (remarks_left remaining old) (remarks_left remaining new)
       → (told : List ℕ) → noted_by remaining notes old told → noted_by remaining notes new (told ++ more)
   noted-more old new more passed bytes stays told h = (
     h.0,
@@ -45,10 +51,18 @@ module _ {S : Type 0} (remaining : S → Option (List ℕ)) (notes : S → List 
     gives-more old new h.0 h.1 more passed bytes stays h.3,
   )
 
+  -- so it is where nothing was read
+  pub noted-filled : (old new : Classic S) (more : List ℕ) → source_of new ≡ source_of old → Consumes (left_in remaining old) (left_in remaining new) more
+      → Stays (remarks_left remaining old) (remarks_left remaining new) → NotesOn (noted_by remaining notes) old new more
+  noted-filled old new more same bytes stays =
+      let passed : PassesOn remaining notes (source_of old) (source_of old) =
+      ([], Consumes-nil (remaining (source_of old)), λ read h. subst (notes (source_of old)) (sym (append-nil read)) h) in
+      noted-more old new more (subst (PassesOn remaining notes (source_of old)) (sym same) passed) bytes stays
+
   -- where nothing was read, and nothing given
   pub noted-begins : (c : Classic S) (file : List ℕ) → remaining (source_of c) ≡ Some file → notes (source_of c) []
-      → left_in remaining c ≡ Some (classic_of (reading_of file)) → refusal_left remaining c ≡ Some (reading_of file).refusal → noted_by remaining notes c (told_as file)
-  noted-begins c file is noted left refusal = (
+      → left_in remaining c ≡ Some (classic_of (reading_of file)) → remarks_left remaining c ≡ Some (remarks_of (reading_of file)) → noted_by remaining notes c (told_as file)
+  noted-begins c file is noted left remarks = (
     file,
     [],
     sym (append-nil (told_as file)),
@@ -57,7 +71,7 @@ module _ {S : Type 0} (remaining : S → Option (List ℕ)) (notes : S → List 
       noted = noted;
       passed = subst (λ o. Consumes (Some file) o []) (sym is) (Consumes-nil (Some file));
       left = subst (λ o. Consumes (Some (classic_of (reading_of file))) o []) (sym left) (Consumes-nil (Some (classic_of (reading_of file))));
-      refusal = refusal;
+      remarks = remarks;
     },
   )
 
@@ -77,7 +91,11 @@ told_apart file other given more e =
     let both = first_and_rest (length file) (length other) (file ++ given) (other ++ more) e in
     parts file other given more both.0 both.1
 
--- ---- what is known of the refusal of a file
+-- ---- what is known of what is told of a file beside its packets
+
+none_before : (l m : List ℕ) → l ++ m ≡ [] → l ≡ []
+none_before [] m e = refl
+none_before (x ∷ l) m e = absurd cc
 
 pub none_behind : (l m : List ℕ) → l ++ m ≡ [] → m ≡ []
 none_behind [] m e = e
@@ -87,31 +105,74 @@ no_mark : (r : Option Refusal) → mark_of r ≡ [] → r ≡ None
 no_mark None e = refl
 no_mark (Some refusal) e = absurd cc
 
-nothing_left : (held : List ℕ) (reading : Reading) → held ++ records_bytes reading ≡ [] → reading.refusal ≡ None
-nothing_left held reading e =
-    no_mark reading.refusal (none_behind (flat_map packet_bytes reading.packets) (mark_of reading.refusal) (none_behind held (records_bytes reading) e))
+-- a record has some bytes
+some_front : (p : Packet) → front_bytes p ≡ [] → ⊥
+some_front p e =
+    let seconds = little_bytes 4 p.seconds in
+    let size : length seconds ≡ 4 = length-bytes_low_first 0 4 p.seconds in
+    let none : length seconds ≡ 0 = ap length (none_before seconds _ e) in
+    absurd {A = ⊥} (omega (arith, size, none))
 
-module _ (order : Option Order) (interfaces : List Interface) (at : ℕ) (held : List ℕ) where
+no_packet : (packets : List Packet) → flat_map packet_bytes packets ≡ [] → packets ≡ []
+no_packet [] e = refl
+no_packet (p ∷ packets) e =
+    let record_none = none_before (packet_bytes p) (flat_map packet_bytes packets) (sym (flat_map-cons packet_bytes p packets) ∙ e) in
+    absurd (some_front p (none_before (front_bytes p) p.bytes record_none))
+
+module _ (held : List ℕ) (reading : Reading) (e : held ++ records_bytes reading ≡ []) where
+  no_record : records_bytes reading ≡ []
+  no_record = none_behind held (records_bytes reading) e
+
+  refusal_none : reading.refusal ≡ None
+  refusal_none = no_mark reading.refusal (none_behind (flat_map packet_bytes reading.packets) (mark_of reading.refusal) no_record)
+
+  packets_none : reading.packets ≡ []
+  packets_none = no_packet reading.packets (none_before (flat_map packet_bytes reading.packets) (mark_of reading.refusal) no_record)
+
+abbrev told : Option Refusal → Option ℕ → Remarks
+told refusal other = record { refusal = refusal; other_link_type = other }
+
+behind_none : (other : Option ℕ) (r : Remarks) → r.refusal ≡ None → r.other_link_type ≡ None → told None other ≡ behind other r
+behind_none None r refusal none = ap (λ a. told a None) (sym refusal) ∙ ap (λ o. told r.refusal o) (sym none)
+behind_none (Some link_type) r refusal none = ap (λ a. told a (Some link_type)) (sym refusal)
+
+module _ (other : Option ℕ) (order : Option Order) (interfaces : List Interface) (at : ℕ) (held : List ℕ) where
   abbrev reading_with : List ℕ → Reading
   reading_with rest = reading_left (record { order = order; interfaces = interfaces; at = at; rest = rest })
 
-  none-known : (known : Option (List ℕ)) (r : Option Refusal) → option_map (given_by order interfaces at held) known ≡ Some []
-      → option_map (λ rest. (reading_with rest).refusal) known ≡ Some r → None ≡ r
+  none-known : (known : Option (List ℕ)) (r : Remarks) → option_map (given_by order interfaces at held) known ≡ Some []
+      → option_map (λ rest. behind other (remarks_of (reading_with rest))) known ≡ Some r → told None other ≡ r
   none-known None r all is = absurd cc
   none-known (Some rest) r all is =
-      let end : held ++ records_bytes (reading_with rest) ≡ [] = cc in
-      let same : (reading_with rest).refusal ≡ r = cc in
-      sym (nothing_left held (reading_with rest) end) ∙ same
+      let reading = reading_with rest in
+      let end : held ++ records_bytes reading ≡ [] = cc in
+      let same : behind other (remarks_of reading) ≡ r = cc in
+      behind_none other (remarks_of reading) (refusal_none held reading end) (other-none (length rest) _ (packets_none held reading end)) ∙ same
 
-  all-given : (known : Option (List ℕ)) (p : Progress) (r : Option Refusal) → left_by held (option_map (given_by order interfaces at held) known) p ≡ Some []
-      → refusal_left_by (option_map (λ rest. (reading_with rest).refusal) known) p ≡ Some r → refusal_by p ≡ r
+  all-given : (known : Option (List ℕ)) (p : Progress) (r : Remarks) → left_by held (option_map (given_by order interfaces at held) known) p ≡ Some []
+      → remarks_left_by other (option_map (λ rest. behind other (remarks_of (reading_with rest))) known) p ≡ Some r → told (refusal_by p) other ≡ r
   all-given known Going r all is = none-known known r all is
   all-given known (Ended refusal) r all is = cc
 
-met : (known : Option (Option Refusal)) (p : Progress) (refusal : Refusal) (r : Option Refusal) → refusal_by p ≡ Some refusal
-    → refusal_left_by known p ≡ Some r → r ≡ Some refusal
-met known Going refusal r is left = absurd cc
-met known (Ended other) refusal r is left = (let same : other ≡ r = cc in sym same ∙ is)
+refusal-met : (other : Option ℕ) (known : Option Remarks) (p : Progress) (refusal : Refusal) (r : Remarks) → refusal_by p ≡ Some refusal
+    → remarks_left_by other known p ≡ Some r → r.refusal ≡ Some refusal
+refusal-met other known Going refusal r is left = absurd cc
+refusal-met other known (Ended met) refusal r is left = (let same : told met other ≡ r = cc in ap (λ (t : Remarks). t.refusal) (sym same) ∙ is)
+
+first_met : (other : Option ℕ) (link_type : ℕ) (r : Remarks) → other ≡ Some link_type → (behind other r).other_link_type ≡ Some link_type
+first_met other link_type r is = ap (λ o. option_or o r.other_link_type) is
+
+known-met : (other : Option ℕ) (ends : List ℕ → Remarks) (known : Option (List ℕ)) (link_type : ℕ) (r : Remarks) → other ≡ Some link_type
+    → option_map (λ rest. behind other (ends rest)) known ≡ Some r → r.other_link_type ≡ Some link_type
+known-met other ends None link_type r is left = absurd cc
+known-met other ends (Some rest) link_type r is left =
+    let same : behind other (ends rest) ≡ r = cc in
+    ap (λ (t : Remarks). t.other_link_type) (sym same) ∙ first_met other link_type (ends rest) is
+
+other-met : (other : Option ℕ) (ends : List ℕ → Remarks) (known : Option (List ℕ)) (p : Progress) (link_type : ℕ) (r : Remarks) → other ≡ Some link_type
+    → remarks_left_by other (option_map (λ rest. behind other (ends rest)) known) p ≡ Some r → r.other_link_type ≡ Some link_type
+other-met other ends known Going link_type r is left = known-met other ends known link_type r is left
+other-met other ends known (Ended refusal) link_type r is left = (let same : told refusal other ≡ r = cc in ap (λ (t : Remarks). t.other_link_type) (sym same) ∙ is)
 
 known_end : (left : Option (List ℕ)) (whole given : List ℕ) → Consumes (Some whole) left given → IsAtEnd left → left ≡ Some []
 known_end None whole given h end = absurd h
@@ -124,17 +185,28 @@ module _ {S : Type 0} (remaining : S → Option (List ℕ)) (notes : S → List 
       let same = told_apart file h.0 given h.1 h.2 in
       subst (λ f. Gives remaining notes c f given) (sym same.0) (subst (Gives remaining notes c h.0) (sym same.1) h.3)
 
-  -- once all was given, the refusal that was met is that of the file
-  pub gives-all : Gives remaining notes c file given → left_in remaining c ≡ Some [] → refusal_in c ≡ (reading_of file).refusal
+  -- once all was given, what is told beside the packets is that of the file
+  gives-all : Gives remaining notes c file given → left_in remaining c ≡ Some [] → remarks_in c ≡ remarks_of (reading_of file)
   gives-all g all =
-      all-given (order_in c.section) (interfaces_in c.section) c.at (bytes_held c.held) (rest_in remaining c) c.progress (reading_of file).refusal all g.refusal
+      all-given (other_met c.section) (order_in c.section) (interfaces_in c.section) c.at (bytes_held c.held) (rest_in remaining c) c.progress
+      (remarks_of (reading_of file)) all g.remarks
+
+  pub gives-remarks : Gives remaining notes c file given → IsAtEnd (left_in remaining c) → remarks_in c ≡ remarks_of (reading_of file)
+  gives-remarks g end = gives-all g (known_end (left_in remaining c) (classic_of (reading_of file)) given g.left end)
 
   pub gives-ended : Gives remaining notes c file given → IsAtEnd (left_in remaining c) → refusal_in c ≡ (reading_of file).refusal
-  gives-ended g end = gives-all g (known_end (left_in remaining c) (classic_of (reading_of file)) given g.left end)
+  gives-ended g end = ap (λ (r : Remarks). r.refusal) (gives-remarks g end)
 
   -- a refusal that was met is that of the file
   pub gives-refused : (refusal : Refusal) → Gives remaining notes c file given → refusal_in c ≡ Some refusal → (reading_of file).refusal ≡ Some refusal
-  gives-refused refusal g is = met (option_map (refusal_with c) (rest_in remaining c)) c.progress refusal (reading_of file).refusal is g.refusal
+  gives-refused refusal g is =
+      refusal-met (other_met c.section) (option_map (remarks_with c) (rest_in remaining c)) c.progress refusal (remarks_of (reading_of file)) is g.remarks
+
+  -- so is a link type
+  pub gives-other : (link_type : ℕ) → Gives remaining notes c file given → other_met c.section ≡ Some link_type → (reading_of file).other ≡ Some link_type
+  gives-other link_type g is =
+      other-met (other_met c.section) (λ rest. remarks_of (reading_left (state_with c rest))) (rest_in remaining c) c.progress link_type
+      (remarks_of (reading_of file)) is g.remarks
 
 -- what passed a source of which a file was told is what it gave of that file
 pub gives-passed : {S : Type 0} (remaining : S → Option (List ℕ)) (notes : S → List ℕ → Type 0) (old new : Classic S) (file : List ℕ)

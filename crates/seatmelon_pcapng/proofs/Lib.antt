@@ -6,7 +6,7 @@ pub mod Gives
 pub mod Looking
 pub mod Options
 pub mod Passing
-pub mod Refusals
+pub mod Staying
 pub mod Steps
 pub mod Through
 pub mod Units

@@ -11,11 +11,10 @@ use Rattle.seatmelon_pcapng.specs.Blocks.{interfaces_after}
 use Rattle.seatmelon_pcapng.specs.Classics.{given_by, left_by}
 use Rattle.seatmelon_pcapng.specs.Comings.{stands}
 use Rattle.seatmelon_pcapng.specs.Progress.{IsReading}
-use Rattle.seatmelon_pcapng.specs.Readings.{EndsWithin, classic_of, front_by, header_bytes, next_of, order_after, packet_bytes, packet_in, packets_in, reading_left, reading_of, records_bytes, state_after}
+use Rattle.seatmelon_pcapng.specs.Readings.{StandsWithin, classic_of, front_by, header_bytes, next_of, order_after, packet_bytes, packet_in, packets_in, reading_left, reading_of, records_bytes, state_after}
 use Rattle.seatmelon_pcapng.specs.Readings.Next.{refused, goes}
 use Rattle.seatmelon_pcapng.specs.declared.block.Found.{Found}
 use Rattle.seatmelon_pcapng.specs.declared.block.Turn.{Turn}
-use Rattle.seatmelon_pcapng.specs.declared.block.Turn.TheVariants as turns
 use Rattle.seatmelon_pcapng.specs.declared.classic.Progress.{Progress}
 use Rattle.seatmelon_pcapng.specs.declared.classic.Progress.TheVariants.{Going, Ended}
 use Rattle.seatmelon_pcapng.specs.declared.front.Front.{Front}
@@ -46,8 +45,8 @@ some_so l e = grind (arith, nat_tests)
 
 -- ---- what is spelled of a packet
 
-pub spelled-packet : (block : List ℕ) (found : Found) → EndsWithin (length block) (turns.Packet found)
-    → front_by found ++ slice_range block found.start found.end ≡ flat_map packet_bytes (packets_in block (turns.Packet found))
+pub spelled-packet : (block : List ℕ) (found : Found) → StandsWithin (length block) found
+    → front_by found ++ slice_range block found.start found.end ≡ flat_map packet_bytes (packet_in block found ∷ [])
 spelled-packet block found within =
     let bytes = slice_range block found.start found.end in
     let size : length bytes ≡ min (found.end - found.start) (length (drop found.start block)) = length-take (found.end - found.start) (drop found.start block) in

@@ -3,6 +3,7 @@ use Rattle.std.specs.Prelude.{ℕ, ◌+◌, ◌*◌, ◌-◌, ◌%◌, ◌^◌, 
 use Rattle.seatmelon_pcapng.specs.Interfaces.{interface_in}
 use Rattle.seatmelon_pcapng.specs.Moments.{moment_at, no_moment}
 use Rattle.seatmelon_pcapng.specs.Orders.{field, order_told}
+use Rattle.seatmelon_pcapng.specs.declared.block.Found.{Found}
 use Rattle.seatmelon_pcapng.specs.declared.block.Turn.{Turn}
 use Rattle.seatmelon_pcapng.specs.declared.block.Turn.TheVariants as turns
 use Rattle.seatmelon_pcapng.specs.declared.front.Front.{Front}
@@ -91,16 +92,16 @@ most_captured = 262144
 abbrev pub most_interfaces : ℕ
 most_interfaces = 65536
 
--- what is told of a frame other than one of Ethernet: nothing of its bytes
-abbrev pub told_length : Interface → ℕ → ℕ
-told_length i captured = if i.link_type == ethernet then captured else 0
+-- a packet of this interface whose bytes stand there; they aren't told where it isn't one of Ethernet
+abbrev pub packet_of : Interface → Found → Turn
+packet_of i found = if i.link_type == ethernet then turns.Packet found else turns.Foreign (record found { end = found.start }) i.link_type
 
 -- a packet of which so many bytes stand there, in a block that has room for so many
 abbrev pub packet_turn : Interface → Moment → ℕ → ℕ → ℕ → ℕ → Result Turn Reason
 packet_turn i moment original captured start room =
     if nat_lt room captured then Err reasons.CapturedBeyond
     else if nat_lt most_captured captured then Err reasons.CapturedTooLong
-    else Ok (turns.Packet (record { moment = moment; original = original; start = start; end = start + told_length i captured }))
+    else Ok (packet_of i (record { moment = moment; original = original; start = start; end = start + captured }))
 
 -- the time stamp of a packet, in the units of its interface
 abbrev pub stamp_in : Order → List ℕ → ℕ
@@ -141,4 +142,13 @@ abbrev pub interfaces_after : List Interface → Turn → List Interface
 interfaces_after interfaces turns.Section = []
 interfaces_after interfaces (turns.Interface i) = interfaces ++ i ∷ []
 interfaces_after interfaces (turns.Packet found) = interfaces
+interfaces_after interfaces (turns.Foreign found link_type) = interfaces
 interfaces_after interfaces turns.Other = interfaces
+
+-- the link type of a packet, if it isn't that of Ethernet
+abbrev pub other_of : Turn → Option ℕ
+other_of turns.Section = None
+other_of (turns.Interface i) = None
+other_of (turns.Packet found) = None
+other_of (turns.Foreign found link_type) = Some link_type
+other_of turns.Other = None

@@ -1,16 +1,18 @@
 -- A source of a classic capture over one of a pcapng file.
-use Rattle.std.specs.Prelude.{◌≡◌, ℕ, List, ◌++◌, Option, Some, IfSome, option_map}
+use Rattle.std.specs.Prelude.{◌≡◌, ℕ, List, [], ◌++◌, Option, Some, IfSome, option_map}
 use Rattle.std.specs.Io.KnownBytes.{prepend_known}
 use Rattle.seatmelon_pcapng.specs.Memory.{bytes_held, bytes_of}
-use Rattle.seatmelon_pcapng.specs.Progress.{refusal_by}
-use Rattle.seatmelon_pcapng.specs.Readings.{Next, State, next_of, reading_left, records_bytes}
-use Rattle.seatmelon_pcapng.specs.Sections.{interfaces_in, order_in}
+use Rattle.seatmelon_pcapng.specs.Progress.{IsReading, refusal_by}
+use Rattle.seatmelon_pcapng.specs.Readings.{Next, State, behind, next_of, reading_left, records_bytes, remarks_of}
+use Rattle.seatmelon_pcapng.specs.Sections.{interfaces_in, order_in, other_met}
 use Rattle.seatmelon_pcapng.specs.declared.classic.Classic.{Classic}
 use Rattle.seatmelon_pcapng.specs.declared.classic.Progress.{Progress}
 use Rattle.seatmelon_pcapng.specs.declared.classic.Progress.TheVariants.{Going, Ended}
 use Rattle.seatmelon_pcapng.specs.declared.interface.Interface.{Interface}
 use Rattle.seatmelon_pcapng.specs.declared.order.Order.{Order}
+use Rattle.seatmelon_pcapng.specs.declared.order.Order.TheVariants.{Little}
 use Rattle.seatmelon_pcapng.specs.declared.refusal.Refusal.{Refusal}
+use Rattle.seatmelon_pcapng.specs.declared.remarks.Remarks.{Remarks}
 
 abbrev pub source_of : {S : Type 0} → Classic S → S
 source_of c = c.source
@@ -22,6 +24,10 @@ failures_of c = c.failures
 -- why the file is refused, once its end was met
 abbrev pub refusal_in : {S : Type 0} → Classic S → Option Refusal
 refusal_in c = refusal_by c.progress
+
+-- what is told of the file beside the packets that were read
+abbrev pub remarks_in : {S : Type 0} → Classic S → Remarks
+remarks_in c = record { refusal = refusal_in c; other_link_type = other_met c.section }
 
 -- ---- what it will give
 
@@ -51,23 +57,27 @@ left_in remaining c = left_by (bytes_held c.held) (option_map (given_with c) (re
 abbrev pub state_with : {S : Type 0} → Classic S → List ℕ → State
 state_with c rest = record { order = order_in c.section; interfaces = interfaces_in c.section; at = c.at; rest = rest }
 
--- the refusal that these bytes end with
-abbrev pub refusal_with : {S : Type 0} → Classic S → List ℕ → Option Refusal
-refusal_with c rest = (reading_left (state_with c rest)).refusal
+-- what is told beside all packets, where these bytes follow
+abbrev pub remarks_with : {S : Type 0} → Classic S → List ℕ → Remarks
+remarks_with c rest = behind (other_met c.section) (remarks_of (reading_left (state_with c rest)))
 
--- once it has ended, the refusal that it met
-abbrev pub refusal_left_by : Option (Option Refusal) → Progress → Option (Option Refusal)
-refusal_left_by known Going = known
-refusal_left_by known (Ended refusal) = Some refusal
+-- once it has ended, what it met
+abbrev pub remarks_left_by : Option ℕ → Option Remarks → Progress → Option Remarks
+remarks_left_by other known Going = known
+remarks_left_by other known (Ended refusal) = Some (record { refusal = refusal; other_link_type = other })
 
--- the refusal that what is left ends with, where it is known
-abbrev pub refusal_left : {S : Type 0} → (S → Option (List ℕ)) → Classic S → Option (Option Refusal)
-refusal_left remaining c = refusal_left_by (option_map (refusal_with c) (rest_in remaining c)) c.progress
+-- what is told beside all packets in the end, where it is known what is left
+abbrev pub remarks_left : {S : Type 0} → (S → Option (List ℕ)) → Classic S → Option Remarks
+remarks_left remaining c = remarks_left_by (other_met c.section) (option_map (remarks_with c) (rest_in remaining c)) c.progress
 
 -- where it was known, it is still the same
-abbrev pub Stays : Option (Option Refusal) → Option (Option Refusal) → Type 0
-Stays old new = IfSome old (λ refusal. new ≡ Some refusal)
+abbrev pub Stays : Option Remarks → Option Remarks → Type 0
+Stays old new = IfSome old (λ remarks. new ≡ Some remarks)
 
 -- this comes next, where it is known what follows
 abbrev pub Comes : {S : Type 0} → (S → Option (List ℕ)) → Classic S → Next → Type 0
 Comes remaining c next = IfSome (rest_in remaining c) (λ rest. next_of (state_with c rest) ≡ next)
+
+-- records may be given right from its blocks: it holds none, and blocks of its section have the lowest byte first
+abbrev pub CanFill : {S : Type 0} → Classic S → Type 0
+CanFill c = (bytes_held c.held ≡ []) × IsReading c.progress × (order_in c.section ≡ Some Little)

@@ -6,7 +6,7 @@ use Rattle.seatmelon_pcapng.specs.Giving as giving
 use Rattle.seatmelon_pcapng.specs.Giving.{told_as}
 use Rattle.seatmelon_pcapng.specs.Peeked as peeked
 use Rattle.seatmelon_pcapng.specs.Peeked.{begins_pcapng}
-use Rattle.seatmelon_pcapng.specs.Readings.{classic_of, reading_of}
+use Rattle.seatmelon_pcapng.specs.Readings.{classic_of, reading_of, remarks_of}
 use Rattle.seatmelon_pcapng.specs.declared.capture.Capture.{Capture}
 use Rattle.seatmelon_pcapng.specs.declared.capture.Capture.TheVariants.{Plain, Converted}
 use Rattle.seatmelon_pcapng.specs.declared.format.Format.{Format}
@@ -17,26 +17,30 @@ use Rattle.seatmelon_pcapng.specs.declared.refusal.Refusal.{Refusal}
 abbrev pub capture_of : List ℕ → List ℕ
 capture_of file = if begins_pcapng file then classic_of (reading_of file) else file
 
--- in which format a file is read, and why it is refused, if it is one of pcapng
+-- in which format a file is read, and what is told of one of pcapng beside its packets
 abbrev pub format_of : List ℕ → Format
-format_of file = if begins_pcapng file then Pcapng (reading_of file).refusal else Classic
+format_of file = if begins_pcapng file then Pcapng (remarks_of (reading_of file)) else Classic
 
 abbrev pub is_of_pcapng : Format → Bool
 is_of_pcapng Classic = false
-is_of_pcapng (Pcapng refusal) = true
+is_of_pcapng (Pcapng remarks) = true
 
 abbrev pub refusal_told : Format → Option Refusal
 refusal_told Classic = None
-refusal_told (Pcapng refusal) = refusal
+refusal_told (Pcapng remarks) = remarks.refusal
+
+abbrev pub other_told : Format → Option ℕ
+other_told Classic = None
+other_told (Pcapng remarks) = remarks.other_link_type
 
 abbrev pub source_of : {S : Type 0} → Capture S → S
 source_of (Plain p) = peeked.source_of p
 source_of (Converted c) = peeked.source_of (classics.source_of c)
 
--- in which format it reads, and the refusal that it has met
+-- in which format it reads, and what it has met that is told beside the packets
 abbrev pub format_in : {S : Type 0} → Capture S → Format
 format_in (Plain p) = Classic
-format_in (Converted c) = Pcapng (classics.refusal_in c)
+format_in (Converted c) = Pcapng (classics.remarks_in c)
 
 -- what it will give
 abbrev pub left_in : {S : Type 0} → (S → Option (List ℕ)) → Capture S → Option (List ℕ)

@@ -1,8 +1,8 @@
 -- What a source of a classic capture notes of the bytes that it gives: of which file they are, and what passed its own source.
 use Rattle.std.specs.Prelude.{◌≡◌, ℕ, List, ◌∷◌, ◌++◌, length, Option, Some}
 use Rattle.std.specs.Io.KnownBytes.{Consumes}
-use Rattle.seatmelon_pcapng.specs.Classics.{left_in, refusal_left, source_of}
-use Rattle.seatmelon_pcapng.specs.Readings.{classic_of, reading_of}
+use Rattle.seatmelon_pcapng.specs.Classics.{left_in, remarks_left, source_of}
+use Rattle.seatmelon_pcapng.specs.Readings.{classic_of, reading_of, remarks_of}
 use Rattle.seatmelon_pcapng.specs.declared.classic.Classic.{Classic}
 
 -- how a file is told before what is given of it: its length, and its bytes
@@ -15,7 +15,7 @@ pub record Gives {S : Type 0} (remaining : S → Option (List ℕ)) (notes : S �
   pub noted : notes (source_of c) read
   pub passed : Consumes (Some file) (remaining (source_of c)) read
   pub left : Consumes (Some (classic_of (reading_of file))) (left_in remaining c) given
-  pub refusal : refusal_left remaining c ≡ Some (reading_of file).refusal
+  pub remarks : remarks_left remaining c ≡ Some (remarks_of (reading_of file))
 
 -- a file was told, and these bytes were given of it
 abbrev pub noted_by : {S : Type 0} → (S → Option (List ℕ)) → (S → List ℕ → Type 0) → Classic S → List ℕ → Type 0

@@ -1,8 +1,9 @@
 -- The packets that a file holds, and the classic capture of them.
 use Rattle.std.specs.Prelude.{ℕ, zero, suc, ◌+◌, ◌-◌, ◌%◌, ◌^◌, ◌≤◌, ◌==◌, List, [], ◌∷◌, ◌++◌, length, take, drop, slice_range, nat_lt, Option, None, Some, Result, Ok, Err, if◌then◌else◌, ⊤}
 use Rattle.std.specs.List.{flat_map}
+use Rattle.std.specs.Option.{option_or}
 use Rattle.byteorder.specs.Endian.{little_bytes}
-use Rattle.seatmelon_pcapng.specs.Blocks.{front_of, interfaces_after, most_captured, turn_of}
+use Rattle.seatmelon_pcapng.specs.Blocks.{front_of, interfaces_after, most_captured, other_of, turn_of}
 use Rattle.seatmelon_pcapng.specs.declared.block.Found.{Found}
 use Rattle.seatmelon_pcapng.specs.declared.block.Turn.{Turn}
 use Rattle.seatmelon_pcapng.specs.declared.block.Turn.TheVariants as turns
@@ -12,12 +13,18 @@ use Rattle.seatmelon_pcapng.specs.declared.order.Order.{Order}
 use Rattle.seatmelon_pcapng.specs.declared.refusal.Reason.{Reason}
 use Rattle.seatmelon_pcapng.specs.declared.refusal.Reason.TheVariants.{Cut}
 use Rattle.seatmelon_pcapng.specs.declared.refusal.Refusal.{Refusal}
+use Rattle.seatmelon_pcapng.specs.declared.remarks.Remarks.{Remarks}
 
 -- what is told of a frame stands in the first so many bytes of its block, and isn't too long
+abbrev pub StandsWithin : ℕ → Found → Type 0
+StandsWithin len found = (found.start ≤ found.end) × (found.end ≤ len) × (found.end ≤ found.start + most_captured)
+
+-- so it is with what a block says
 abbrev pub EndsWithin : ℕ → Turn → Type 0
 EndsWithin len turns.Section = ⊤
 EndsWithin len (turns.Interface i) = ⊤
-EndsWithin len (turns.Packet found) = (found.start ≤ found.end) × (found.end ≤ len) × (found.end ≤ found.start + most_captured)
+EndsWithin len (turns.Packet found) = StandsWithin len found
+EndsWithin len (turns.Foreign found link_type) = StandsWithin len found
 EndsWithin len turns.Other = ⊤
 
 -- ---- from block to block
@@ -54,6 +61,7 @@ abbrev pub order_after : Option Order → Front → Turn → Option Order
 order_after known front turns.Section = Some front.order
 order_after known front (turns.Interface i) = known
 order_after known front (turns.Packet found) = known
+order_after known front (turns.Foreign found link_type) = known
 order_after known front turns.Other = known
 
 -- offsets are told modulo 2^64
@@ -89,21 +97,27 @@ abbrev pub packets_in : List ℕ → Turn → List Packet
 packets_in block turns.Section = []
 packets_in block (turns.Interface i) = []
 packets_in block (turns.Packet found) = packet_in block found ∷ []
+packets_in block (turns.Foreign found link_type) = packet_in block found ∷ []
 packets_in block turns.Other = []
 
--- the packets that are read, and the refusal that ends them
+-- the packets that are read, the refusal that ends them, and the link type of the first of them that isn't one of Ethernet
 pub record Reading : Type 0 where
   pub packets : List Packet
   pub refusal : Option Refusal
+  pub other : Option ℕ
 
 abbrev pub read_step : State → Next → Reading → Reading
-read_step s ended more = record { packets = []; refusal = None }
-read_step s (refused reason) more = record { packets = []; refusal = Some (record { reason = reason; at = s.at }) }
-read_step s (goes front turn) more = record { packets = packets_in (take front.len s.rest) turn ++ more.packets; refusal = more.refusal }
+read_step s ended more = record { packets = []; refusal = None; other = None }
+read_step s (refused reason) more = record { packets = []; refusal = Some (record { reason = reason; at = s.at }); other = None }
+read_step s (goes front turn) more = record {
+  packets = packets_in (take front.len s.rest) turn ++ more.packets;
+  refusal = more.refusal;
+  other = option_or (other_of turn) more.other;
+}
 
 -- at most so many blocks
 unfoldable pub reading_from : ℕ → State → Reading
-reading_from zero s = record { packets = []; refusal = None }
+reading_from zero s = record { packets = []; refusal = None; other = None }
 reading_from (suc left) s = read_step s (next_of s) (reading_from left (state_after s (next_of s)))
 
 -- all that is left; each block has some bytes
@@ -116,6 +130,14 @@ at_begin file = record { order = None; interfaces = []; at = 0; rest = file }
 -- the packets of a file, in the order of their blocks, up to the first block that is refused
 abbrev pub reading_of : List ℕ → Reading
 reading_of file = reading_left (at_begin file)
+
+-- what is told beside the packets
+abbrev pub remarks_of : Reading → Remarks
+remarks_of r = record { refusal = r.refusal; other_link_type = r.other }
+
+-- the same behind a packet of this link type, if it isn't that of Ethernet
+abbrev pub behind : Option ℕ → Remarks → Remarks
+behind other remarks = record remarks { other_link_type = option_or other remarks.other_link_type }
 
 -- ---- the classic capture
 

@@ -1,7 +1,7 @@
 //! What a block says.
-ghost use Rattle.std.specs.Prelude.{◌≡◌, ◌+◌, ◌≤◌, length, option_map, IfOk};
-ghost use Rattle.seatmelon_pcapng.specs.Blocks.{bounded_by, full_turn, has_version, least_length, packet_turn, simple_turn, stamp_in, told_length, turn_by, turn_of};
-ghost use Rattle.seatmelon_pcapng.specs.Readings.{EndsWithin};
+ghost use Rattle.std.specs.Prelude.{◌≡◌, ◌+◌, ◌≤◌, ℕ, length, option_map, IfOk};
+ghost use Rattle.seatmelon_pcapng.specs.Blocks.{bounded_by, full_turn, has_version, least_length, packet_of, packet_turn, simple_turn, stamp_in, turn_by, turn_of};
+ghost use Rattle.seatmelon_pcapng.specs.Readings.{EndsWithin, StandsWithin};
 
 use crate::front::{
     ENHANCED_PACKET, Front, INTERFACE_DESCRIPTION, OBSOLETE_PACKET, SECTION_HEADER, SIMPLE_PACKET,
@@ -38,7 +38,7 @@ pub struct Found {
     /// How long the frame was, in bytes.
     pub original: u32,
 
-    /// Where what is told of it begins, and where it ends: nothing of a frame other than one of Ethernet.
+    /// Where what is told of it begins, and where it ends.
     pub start: usize,
     pub end: usize,
 }
@@ -55,6 +55,9 @@ pub enum Turn {
     /// A packet.
     Packet(Found),
 
+    /// A packet of an interface that isn't one of Ethernet, of which no bytes are told, and the link type of that.
+    Foreign(Found, u16),
+
     /// Nothing that is read.
     Other,
 }
@@ -68,16 +71,17 @@ fn has_version(order: Order, block: &[u8]) -> bool
     order.u16_at(block, 12) == 1 && (minor == 0 || minor == 2)
 }
 
-// How much is told of a packet of this interface.
+// A packet of this interface.
 #[inline(always)]
-fn told_length(interface: &Interface, captured: usize) -> usize
-    ensures value { result ≡ told_length interface.now captured }
-    ensures most { result ≤ captured }
+fn packet_of(interface: &Interface, found: Found) -> Turn
+    ensures value { result ≡ packet_of interface.now found }
+    ensures within { (len : ℕ) → StandsWithin len found → EndsWithin len result }
 {
     if interface.link_type == ETHERNET {
-        captured
+        Turn::Packet(found)
     } else {
-        0
+        let end = found.start;
+        Turn::Foreign(Found { end, ..found }, interface.link_type)
     }
 }
 
@@ -108,12 +112,13 @@ fn packet_turn(
     if captured > MOST_CAPTURED {
         return Err(Reason::CapturedTooLong);
     }
-    Ok(Turn::Packet(Found {
+    let found = Found {
         moment,
         original,
         start: place.start,
-        end: place.start + told_length(interface, captured),
-    }))
+        end: place.start + captured,
+    };
+    Ok(packet_of(interface, found))
 }
 
 // The time stamp of a packet.

@@ -42,13 +42,13 @@ impl<S: Source> Capture<S> {
         Ok(Capture::Converted(Classic::new(alloc, peeked)?))
     }
 
-    /// In which format it reads; why a pcapng file is refused it tells once all before was read.
+    /// In which format it reads; what it tells of a pcapng file beside its packets is that of what was read of it.
     pub fn format(&self) -> Format
         ensures { result ≡ format_in self.now }
     {
         match self {
             Capture::Plain(_) => Format::Classic,
-            Capture::Converted(classic) => Format::Pcapng(classic.refusal()),
+            Capture::Converted(classic) => Format::Pcapng(classic.remarks()),
         }
     }
 

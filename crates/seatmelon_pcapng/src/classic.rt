@@ -1,20 +1,25 @@
 //! A source that gives the bytes of a classic capture while it reads those of a pcapng file.
-ghost use Rattle.std.specs.Prelude.{◌≡◌, ◌+◌, ◌≤◌, ◌<◌, ◌++◌, [], true, length, option_map, Some, IfOk, IfErr, IfSome, OnOk, OnErr};
-ghost use Rattle.std.specs.Io.KnownBytes.{IsAtEnd, Keeps};
+ghost use Rattle.std.specs.Prelude.{◌≡◌, ◌+◌, ◌≤◌, ◌<◌, ◌∷◌, ◌++◌, [], true, take, length, option_map, Some, IfOk, IfErr, IfSome, OnOk, OnErr};
+ghost use Rattle.std.specs.Io.{ReadsAtMost};
+ghost use Rattle.std.specs.Io.KnownBytes.{Consumes, IsAtEnd, Keeps, ReadConsumes};
 ghost use Rattle.std.specs.List.{flat_map};
+ghost use Rattle.rasta_pcap.specs.Devices.{after_read};
 ghost use Rattle.rasta_pcap.specs.Fault.{no_memory};
-ghost use Rattle.rasta_pcap.specs.Noting.{PassesOn};
+ghost use Rattle.rasta_pcap.specs.Noting.{NotesOn, PassesOn, given};
 ghost use Rattle.seatmelon_pcapng.specs.Blocks.{most_captured};
 ghost use Rattle.seatmelon_pcapng.specs.Comings.{IsCut, Tells};
 ghost use Rattle.seatmelon_pcapng.specs.Memory.{bytes_held, bytes_of};
-ghost use Rattle.seatmelon_pcapng.specs.Readings.{EndsWithin, classic_of, front_by, packet_bytes, packets_in, reading_of};
+ghost use Rattle.seatmelon_pcapng.specs.Readings.{EndsWithin, StandsWithin, classic_of, front_by, packet_bytes, packet_in, packets_in, reading_of};
 ghost use Rattle.seatmelon_pcapng.specs.Sections.{interfaces_in, order_in};
 
 use crate::block::{Found, Turn};
 use crate::coming::Coming;
+use crate::enhanced::Enhanced;
 use crate::front::Front;
 use crate::memory::{Blocks, Held};
+use crate::order::Order;
 use crate::refusal::{Reason, Refusal};
+use crate::remarks::Remarks;
 use crate::section::Section;
 use byteorder::{ByteOrder, LittleEndian};
 use rasta_pcap::{Fault, Source};
@@ -52,7 +57,7 @@ enum Progress {
 /// has none, or one whose seconds don't fit 32 bits, is told as captured at 0.
 ///
 /// It keeps what it read at once, and few records. A file that is refused ends inside the record behind those that were
-/// read, and [`Classic::refusal`] tells why.
+/// read, and [`Classic::refusal`] tells why. [`Classic::remarks`] names the link type of frames that are told as empty.
 #[derive(Drop)]
 pub struct Classic<S> {
     source: S,
@@ -83,7 +88,46 @@ fn front_of(found: &Found) -> [u8; RECORD_FRONT]
     front
 }
 
-// Holds the record of a packet behind the others, if the block is one of a packet.
+// Writes a record to the front of a buffer.
+#[inline(always)]
+fn write_record(front: &[u8], frame: &[u8], buf: &mut [u8])
+    requires { length front.now + length frame.now ≤ length buf.old }
+    ensures written { take (length front.now + length frame.now) buf.new ≡ front.now ++ frame.now }
+    ensures len { length buf.new ≡ length buf.old }
+{
+    buf[..front.len()].copy_from_slice(front);
+    buf[front.len()..front.len() + frame.len()].copy_from_slice(frame);
+}
+
+// Writes the record of a packet to the front of a buffer, if there is room for it, and answers how many bytes it has; 0
+// if there is none.
+#[inline(always)]
+fn write_packet(block: &[u8], found: &Found, buf: &mut [u8]) -> usize
+    requires { StandsWithin (length block.now) found.now }
+    ensures bound { result ≤ length buf.new }
+    ensures len { length buf.new ≡ length buf.old }
+    ensures written { 0 < result → take result buf.new ≡ flat_map packet_bytes (packet_in block.now found.now ∷ []) }
+{
+    let frame = &block[found.start..found.end];
+    let size = RECORD_FRONT + frame.len();
+    if size > buf.len() {
+        return 0;
+    }
+    write_record(&front_of(found), frame, buf);
+    size
+}
+
+// Holds the record of a packet behind the others.
+#[inline(always)]
+fn spell_packet(held: &mut Held, block: &[u8], found: &Found) -> Result<(), AllocError>
+    requires { StandsWithin (length block.now) found.now }
+    ensures held { OnOk result (bytes_held held.new ≡ bytes_held held.old ++ flat_map packet_bytes (packet_in block.now found.now ∷ [])) }
+    ensures kept { OnErr result (bytes_held held.new ≡ bytes_held held.old) }
+{
+    held.put(&front_of(found), &block[found.start..found.end])
+}
+
+// The same, if the block is one of a packet.
 #[inline(always)]
 fn spell(held: &mut Held, block: &[u8], turn: &Turn) -> Result<(), AllocError>
     requires { EndsWithin (length block.now) turn.now }
@@ -91,13 +135,13 @@ fn spell(held: &mut Held, block: &[u8], turn: &Turn) -> Result<(), AllocError>
     ensures kept { OnErr result (bytes_held held.new ≡ bytes_held held.old) }
 {
     match turn {
-        Turn::Packet(found) => held.put(&front_of(found), &block[found.start..found.end]),
+        Turn::Packet(found) | Turn::Foreign(found, _) => spell_packet(held, block, found),
         Turn::Section | Turn::Interface(_) | Turn::Other => Ok(()),
     }
 }
 
 impl<S: Source> Classic<S> {
-    ghost use Rattle.seatmelon_pcapng.specs.Classics.{Comes, Stays, failures_of, left_in, refusal_in, refusal_left, source_of};
+    ghost use Rattle.seatmelon_pcapng.specs.Classics.{CanFill, Comes, Stays, failures_of, left_in, refusal_in, remarks_in, remarks_left, source_of};
     ghost use Rattle.seatmelon_pcapng.specs.Giving.{noted_by, told_as};
     ghost use Rattle.seatmelon_pcapng.specs.Progress.{HasEnded, IsReading};
     ghost use Rattle.seatmelon_pcapng.specs.Readings.Next.{goes, refused};
@@ -140,6 +184,17 @@ impl<S: Source> Classic<S> {
         }
     }
 
+    /// What is told of the file beside the packets that were read: why it is refused, once all before was read, and the
+    /// link type of the first of them that isn't one of Ethernet.
+    pub fn remarks(&self) -> Remarks
+        ensures { result ≡ remarks_in self.now }
+    {
+        Remarks {
+            refusal: self.refusal(),
+            other_link_type: self.section.other_link_type(),
+        }
+    }
+
     /// Whether a read failed since there was no memory for a block.
     pub fn lacks_memory(&self) -> bool {
         self.lacks_memory
@@ -167,7 +222,7 @@ impl<S: Source> Classic<S> {
         requires next { Comes S.remaining self.old (refused reason) }
         requires reading { IsReading self.old.progress }
         ensures left { Keeps (left_in S.remaining self.old) (left_in S.remaining self.new) }
-        ensures refusal { Stays (refusal_left S.remaining self.old) (refusal_left S.remaining self.new) }
+        ensures remarks { Stays (remarks_left S.remaining self.old) (remarks_left S.remaining self.new) }
         ensures source { source_of self.new ≡ source_of self.old }
         ensures told { OnOk result (refusal_in self.new ≡ Some (record { reason = reason; at = self.old.at })) }
         ensures failures { failures_of self.new ≡ failures_of self.old }
@@ -197,7 +252,7 @@ impl<S: Source> Classic<S> {
         requires whole { front.len ≤ length (bytes_of self.old.blocks) }
         requires within { EndsWithin front.len turn.now }
         ensures left { Keeps (left_in S.remaining self.old) (left_in S.remaining self.new) }
-        ensures refusal { Stays (refusal_left S.remaining self.old) (refusal_left S.remaining self.new) }
+        ensures remarks { Stays (remarks_left S.remaining self.old) (remarks_left S.remaining self.new) }
         ensures source { source_of self.new ≡ source_of self.old }
         ensures passed { OnOk result (length (bytes_of self.new.blocks) + front.len ≡ length (bytes_of self.old.blocks)) }
         ensures kept { OnErr result ((order_in self.new.section ≡ order_in self.old.section)
@@ -218,7 +273,7 @@ impl<S: Source> Classic<S> {
         requires reading { IsReading self.old.progress }
         ensures tells { bytes_held self.new.held ≡ [] → Tells (order_in self.new.section) (interfaces_in self.new.section) (bytes_of self.new.blocks) result }
         ensures left { Keeps (left_in S.remaining self.old) (left_in S.remaining self.new) }
-        ensures refusal { Stays (refusal_left S.remaining self.old) (refusal_left S.remaining self.new) }
+        ensures remarks { Stays (remarks_left S.remaining self.old) (remarks_left S.remaining self.new) }
         ensures source { source_of self.new ≡ source_of self.old }
         ensures progress { self.new.progress ≡ self.old.progress }
         ensures failures { failures_of self.new ≡ failures_of self.old }
@@ -234,6 +289,62 @@ impl<S: Source> Classic<S> {
         }
     }
 
+    // Whether records may be given right from the blocks: none is held, and blocks have the lowest byte first.
+    #[inline(always)]
+    fn may_fill(&self) -> bool
+        ensures { result ≡ true → CanFill self.now }
+    {
+        self.held.is_empty()
+            && matches!(self.progress, Progress::Going)
+            && matches!(self.section.order(), Some(Order::Little))
+    }
+
+    // Gives the record of the next packet right from its block, where there is room for it, and answers how many bytes
+    // that has; 0 where it gives none.
+    #[inline(always)]
+    fn give_packet(&mut self, buf: &mut [u8]) -> usize
+        requires { CanFill self.old }
+        ensures bound { result ≤ length buf.new }
+        ensures len { length buf.new ≡ length buf.old }
+        ensures ready { CanFill self.new }
+        ensures left { Consumes (left_in S.remaining self.old) (left_in S.remaining self.new) (take result buf.new) }
+        ensures remarks { Stays (remarks_left S.remaining self.old) (remarks_left S.remaining self.new) }
+        ensures source { source_of self.new ≡ source_of self.old }
+        ensures failures { failures_of self.new ≡ failures_of self.old }
+    {
+        let bytes = self.blocks.bytes();
+        let Some(next) = Enhanced::of(self.section.interfaces(), bytes) else {
+            return 0;
+        };
+        let size = write_packet(&bytes[..next.front.len], &next.found, buf);
+        if size > 0 {
+            self.at = self.at.wrapping_add(next.front.len as u64);
+            self.blocks.pass(next.front.len);
+        }
+        size
+    }
+
+    // Gives records right from the blocks, as far as there is room, and answers how many bytes. Nearly all packets pass
+    // here.
+    fn fill(&mut self, buf: &mut [u8]) -> usize
+        ensures bound { result ≤ length buf.new }
+        ensures len { length buf.new ≡ length buf.old }
+        ensures bytes { Consumes (left_in S.remaining self.old) (left_in S.remaining self.new) (take result buf.new) }
+        ensures failures { failures_of self.new ≡ failures_of self.old }
+        ensures noted { NotesOn (noted_by S.remaining S.notes) self.old self.new (take result buf.new) }
+    {
+        if !self.may_fill() {
+            return 0;
+        }
+        let mut filled = 0;
+        loop {
+            match self.give_packet(&mut buf[filled..]) {
+                0 => return filled,
+                n => filled += n,
+            }
+        }
+    }
+
     // Ends where no bytes follow, or refuses a block that is cut.
     fn end(&mut self) -> io::Result<()>
         requires none { bytes_held self.old.held ≡ [] }
@@ -241,7 +352,7 @@ impl<S: Source> Classic<S> {
         requires cut { IsCut (order_in self.old.section) (interfaces_in self.old.section) (bytes_of self.old.blocks) }
         requires at_end { IsAtEnd (S.remaining self.old.source) }
         ensures left { Keeps (left_in S.remaining self.old) (left_in S.remaining self.new) }
-        ensures refusal { Stays (refusal_left S.remaining self.old) (refusal_left S.remaining self.new) }
+        ensures remarks { Stays (remarks_left S.remaining self.old) (remarks_left S.remaining self.new) }
         ensures source { source_of self.new ≡ source_of self.old }
         ensures failures { failures_of self.new ≡ failures_of self.old }
     {
@@ -259,7 +370,7 @@ impl<S: Source> Classic<S> {
         requires reading { IsReading self.old.progress }
         requires wanted { Tells (order_in self.old.section) (interfaces_in self.old.section) (bytes_of self.old.blocks) (Wanted wanted) }
         ensures left { Keeps (left_in S.remaining self.old) (left_in S.remaining self.new) }
-        ensures refusal { Stays (refusal_left S.remaining self.old) (refusal_left S.remaining self.new) }
+        ensures remarks { Stays (remarks_left S.remaining self.old) (remarks_left S.remaining self.new) }
         ensures passed { PassesOn S.remaining S.notes (source_of self.old) (source_of self.new) }
         ensures failures { failures_of self.new ≡ failures_of self.old }
     {
@@ -278,7 +389,7 @@ impl<S: Source> Classic<S> {
         requires none { bytes_held self.old.held ≡ [] }
         requires reading { IsReading self.old.progress }
         ensures left { Keeps (left_in S.remaining self.old) (left_in S.remaining self.new) }
-        ensures refusal { Stays (refusal_left S.remaining self.old) (refusal_left S.remaining self.new) }
+        ensures remarks { Stays (remarks_left S.remaining self.old) (remarks_left S.remaining self.new) }
         ensures passed { PassesOn S.remaining S.notes (source_of self.old) (source_of self.new) }
         ensures failures { failures_of self.new ≡ failures_of self.old }
     {
@@ -297,7 +408,7 @@ impl<S: Source> Classic<S> {
     fn prepare(&mut self) -> io::Result<()>
         ensures ready { OnOk result (bytes_held self.new.held ≡ [] → HasEnded self.new.progress) }
         ensures left { Keeps (left_in S.remaining self.old) (left_in S.remaining self.new) }
-        ensures refusal { Stays (refusal_left S.remaining self.old) (refusal_left S.remaining self.new) }
+        ensures remarks { Stays (remarks_left S.remaining self.old) (remarks_left S.remaining self.new) }
         ensures passed { PassesOn S.remaining S.notes (source_of self.old) (source_of self.new) }
         ensures failures { failures_of self.new ≡ failures_of self.old }
     {
@@ -312,6 +423,23 @@ impl<S: Source> Classic<S> {
         }
         Err(io::Error::from(ErrorKind::Other))
     }
+
+    // Gives what it holds, once that is something.
+    fn give(&mut self, buf: &mut [u8]) -> io::Result<usize>
+        ensures bound { ReadsAtMost result buf.new }
+        ensures bytes { ReadConsumes (left_in S.remaining self.old) (left_in S.remaining self.new) result buf.new }
+        ensures len { length buf.new ≡ length buf.old }
+        ensures counted { failures_of self.new ≡ after_read (failures_of self.old) result }
+        ensures noted { NotesOn (noted_by S.remaining S.notes) self.old self.new (given result buf.new) }
+    {
+        match self.prepare() {
+            Ok(()) => Ok(self.held.give(buf)),
+            Err(error) => {
+                self.failures = self.failures.saturating_add(1);
+                Err(error)
+            }
+        }
+    }
 }
 
 impl<S: Source> Source for Classic<S> {
@@ -325,12 +453,9 @@ impl<S: Source> Source for Classic<S> {
     ghost notes = { noted_by S.remaining S.notes };
 
     fn read(&mut self, buf: &mut [u8]) -> io::Result<usize> {
-        match self.prepare() {
-            Ok(()) => Ok(self.held.give(buf)),
-            Err(error) => {
-                self.failures = self.failures.saturating_add(1);
-                Err(error)
-            }
+        match self.fill(buf) {
+            0 => self.give(buf),
+            n => Ok(n),
         }
     }
 

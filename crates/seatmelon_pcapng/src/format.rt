@@ -1,8 +1,9 @@
 //! In which format a file was read.
 ghost use Rattle.std.specs.Prelude.{◌≡◌};
-ghost use Rattle.seatmelon_pcapng.specs.Formats.{is_of_pcapng, refusal_told};
+ghost use Rattle.seatmelon_pcapng.specs.Formats.{is_of_pcapng, other_told, refusal_told};
 
 use crate::refusal::Refusal;
+use crate::remarks::Remarks;
 
 /// In which format a file was read.
 #[derive(Clone, Copy, Debug)]
@@ -10,8 +11,8 @@ pub enum Format {
     /// As it is: a classic capture, or a file that is none.
     Classic,
 
-    /// Pcapng; and why the file is refused, if it is.
-    Pcapng(Option<Refusal>),
+    /// Pcapng; and what is told of the file beside its packets.
+    Pcapng(Remarks),
 }
 
 impl Format {
@@ -31,7 +32,17 @@ impl Format {
     {
         match self {
             Format::Classic => None,
-            Format::Pcapng(refusal) => refusal,
+            Format::Pcapng(remarks) => remarks.refusal,
+        }
+    }
+
+    /// The link type of the interface of the first packet of a pcapng file that isn't one of Ethernet, if it has any.
+    pub fn other_link_type(self) -> Option<u16>
+        ensures { result ≡ other_told self }
+    {
+        match self {
+            Format::Classic => None,
+            Format::Pcapng(remarks) => remarks.other_link_type,
         }
     }
 }

@@ -9,7 +9,6 @@ ghost use Rattle.seatmelon_pcapng.specs.Giving.{Gives, noted_by, told_as};
 ghost use Rattle.seatmelon_pcapng.specs.Readings.{Packet, classic_of, reading_of};
 ghost use Rattle.seatmelon_pcapng.specs.declared.capture.Capture.{Capture};
 ghost use Rattle.seatmelon_pcapng.specs.declared.classic.Classic.{Classic};
-ghost use Rattle.seatmelon_pcapng.specs.declared.format.Format.TheVariants.{Pcapng};
 ghost use Rattle.seatmelon_pcapng.specs.declared.refusal.Refusal.{Refusal};
 
 use rasta_pcap::Source;
@@ -50,7 +49,8 @@ pub fn told_capture_is_noted<S: Source>()
         → formats.Gives S.remaining S.notes c file given }
 {}
 
-/// Once all was given, the format that such a capture tells is that of the file, with the refusal that the file has.
+/// Once all was given, the format that such a capture tells is that of the file, with all that is told of the file beside
+/// its packets.
 pub fn format_is_of_the_file<S: Source>()
     ensures { (c : Capture S) (file given : List ℕ) → formats.noted_by S.remaining S.notes c (told_as file ++ given)
         → IsAtEnd (formats.left_in S.remaining c) → formats.format_in c ≡ formats.format_of file }
@@ -59,5 +59,11 @@ pub fn format_is_of_the_file<S: Source>()
 /// A refusal that it has met is that of the file, whatever is left to be given.
 pub fn met_refusal_is_of_the_capture<S: Source>()
     ensures { (c : Capture S) (file given : List ℕ) (refusal : Refusal) → formats.noted_by S.remaining S.notes c (told_as file ++ given)
-        → formats.format_in c ≡ Pcapng (Some refusal) → formats.format_of file ≡ Pcapng (Some refusal) }
+        → formats.refusal_told (formats.format_in c) ≡ Some refusal → formats.refusal_told (formats.format_of file) ≡ Some refusal }
+{}
+
+/// And a link type other than that of Ethernet that it has met is the first one of the file.
+pub fn met_link_type_is_of_the_capture<S: Source>()
+    ensures { (c : Capture S) (file given : List ℕ) (link_type : ℕ) → formats.noted_by S.remaining S.notes c (told_as file ++ given)
+        → formats.other_told (formats.format_in c) ≡ Some link_type → formats.other_told (formats.format_of file) ≡ Some link_type }
 {}

@@ -1,8 +1,9 @@
 //! A section, as far as it was read.
 ghost use Rattle.std.specs.Prelude.{◌≡◌, ℕ, List, ◌∷◌, ◌++◌, [], None, Some, OnOk, OnErr};
-ghost use Rattle.seatmelon_pcapng.specs.Blocks.{interfaces_after};
+ghost use Rattle.std.specs.Option.{option_or};
+ghost use Rattle.seatmelon_pcapng.specs.Blocks.{interfaces_after, other_of};
 ghost use Rattle.seatmelon_pcapng.specs.Readings.{order_after, packets_in};
-ghost use Rattle.seatmelon_pcapng.specs.Sections.{interfaces_in, order_in};
+ghost use Rattle.seatmelon_pcapng.specs.Sections.{interfaces_in, order_in, other_met};
 
 use crate::block::Turn;
 use crate::front::Front;
@@ -15,6 +16,9 @@ use std::alloc::{AllocError, Global};
 pub struct Section {
     order: Option<Order>,
     interfaces: Vec<Interface>,
+
+    // The link type of the first packet, also in sections before, that isn't one of Ethernet.
+    other: Option<u16>,
 }
 
 impl Section {
@@ -22,10 +26,12 @@ impl Section {
     pub fn new(alloc: Global) -> Section
         ensures order { order_in result ≡ None }
         ensures interfaces { interfaces_in result ≡ [] }
+        ensures other { other_met result ≡ None }
     {
         Section {
             order: None,
             interfaces: Vec::new(alloc),
+            other: None,
         }
     }
 
@@ -45,10 +51,18 @@ impl Section {
         self.interfaces.as_slice()
     }
 
+    /// The link type of the first packet, of this section and those before it, that isn't one of Ethernet.
+    pub fn other_link_type(&self) -> Option<u16>
+        ensures { result ≡ other_met self.now }
+    {
+        self.other
+    }
+
     // Another section begins.
     fn begin(&mut self, order: Order)
         ensures order { order_in self.new ≡ Some order }
         ensures interfaces { interfaces_in self.new ≡ [] }
+        ensures other { other_met self.new ≡ other_met self.old }
     {
         self.order = Some(order);
         self.interfaces.clear();
@@ -59,6 +73,7 @@ impl Section {
         ensures order { order_in self.new ≡ order_in self.old }
         ensures interfaces { OnOk result (interfaces_in self.new ≡ interfaces_in self.old ++ interface ∷ []) }
         ensures kept { OnErr result (interfaces_in self.new ≡ interfaces_in self.old) }
+        ensures other { other_met self.new ≡ other_met self.old }
     {
         self.interfaces.push(interface)?;
         Ok(())
@@ -69,7 +84,9 @@ impl Section {
     pub fn pass(&mut self, front: Front, turn: &Turn) -> Result<(), AllocError>
         ensures order { OnOk result (order_in self.new ≡ order_after (order_in self.old) front turn.now) }
         ensures interfaces { OnOk result (interfaces_in self.new ≡ interfaces_after (interfaces_in self.old) turn.now) }
-        ensures kept { OnErr result ((order_in self.new ≡ order_in self.old) × (interfaces_in self.new ≡ interfaces_in self.old)) }
+        ensures other { OnOk result (other_met self.new ≡ option_or (other_met self.old) (other_of turn.now)) }
+        ensures kept { OnErr result ((order_in self.new ≡ order_in self.old) × (interfaces_in self.new ≡ interfaces_in self.old)
+            × (other_met self.new ≡ other_met self.old)) }
         ensures no_packet { OnErr result ((block : List ℕ) → packets_in block turn.now ≡ []) }
     {
         match turn {
@@ -78,6 +95,10 @@ impl Section {
                 Ok(())
             }
             Turn::Interface(interface) => self.describe(*interface),
+            Turn::Foreign(_, link_type) => {
+                self.other = self.other.or(Some(*link_type));
+                Ok(())
+            }
             Turn::Packet(_) | Turn::Other => Ok(()),
         }
     }

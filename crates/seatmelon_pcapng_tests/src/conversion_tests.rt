@@ -2,7 +2,7 @@
 use crate::made::made_of;
 use rasta_pcap::devices::{FailAt, Pieces};
 use rasta_pcap::{Counted, Source, read_all};
-use seatmelon_pcapng::{Classic, Reason, Refusal, is_pcapng};
+use seatmelon_pcapng::{Classic, Reason, Refusal, Remarks, is_pcapng};
 use std::alloc::Global;
 use std::process::Abort;
 
@@ -136,6 +136,49 @@ fn answer(alloc: Global, row: &str) -> Option<bool> {
 fn files_are_read_so(rt: HostRuntime) {
     for row in ROWS.lines() {
         assert_eq!(rt; answer(rt.alloc(), row), Some(true), "{row}");
+    }
+}
+
+// The blocks of a file, and the link type that is told of it.
+const LINK_TYPE_ROWS: &str = "\
+section [1 2:101 2:0 4:0 ] | -
+section [1 2:101 2:0 4:0 ] ethernet [1 2:276 2:0 4:0 ] [6 4:1 4:0 4:0 4:0 4:0 ] | -
+section [1 2:101 2:0 4:0 ] ethernet [1 2:276 2:0 4:0 ] [6 4:0 4:0 4:0 4:0 4:0 ] [6 4:2 4:0 4:0 4:0 4:0 ] | 101
+section [1 2:101 2:0 4:0 ] ethernet [1 2:276 2:0 4:0 ] [6 4:1 4:0 4:0 4:0 4:0 ] [6 4:2 4:0 4:0 4:0 4:0 ] | 276
+section [1 2:101 2:0 4:0 ] [3 4:9 z9 ] section [1 2:276 2:0 4:0 ] [3 4:9 z9 ] | 101
+section ethernet [3 4:1 x07 ] big section [1 2:276 2:0 4:0 ] [2 2:0 2:5 4:0 4:1 4:0 4:9 ] | 276
+section [1 2:276 2:0 4:0 ] [6 4:0 4:0 4:0 4:5 4:5 x01020304 ] | -
+section [1 2:276 2:0 4:0 ] [3 4:1 x07 ] [9 4:0 ]16/20 | 276
+";
+
+fn link_type_of(text: &str) -> Option<u16> {
+    text.parse().ok()
+}
+
+// Whether the link type is told of a file that comes in pieces of so many bytes.
+fn is_link_type_told(alloc: Global, file: &[u8], most: usize, link_type: &str) -> Option<bool> {
+    let most = most.max(1);
+    let mut classic = Classic::new(alloc, Counted::new(Pieces::new(file, most))).ok()?;
+    read_all(alloc, &mut classic).ok()?;
+    let wanted = Remarks {
+        refusal: classic.refusal(),
+        other_link_type: link_type_of(link_type),
+    };
+    Some(classic.remarks() == wanted)
+}
+
+fn link_type_answer(alloc: Global, row: &str) -> Option<bool> {
+    let (blocks, link_type) = row.split_once(" | ")?;
+    let file = made_of(alloc, blocks)?;
+    let sips = is_link_type_told(alloc, file.as_slice(), 1, link_type)?;
+    let whole = is_link_type_told(alloc, file.as_slice(), 1 << 20, link_type)?;
+    Some(sips && whole)
+}
+
+#[test]
+fn link_types_are_told_so(rt: HostRuntime) {
+    for row in LINK_TYPE_ROWS.lines() {
+        assert_eq!(rt; link_type_answer(rt.alloc(), row), Some(true), "{row}");
     }
 }
 

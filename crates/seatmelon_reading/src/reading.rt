@@ -50,7 +50,7 @@ pub struct Reading {
     /// None where the file is shorter than a header, or begins with no magic number.
     pub header: Option<FileHeader>,
 
-    /// In which format the file was read, and why it is refused, if it is a pcapng file that is.
+    /// In which format the file was read, and what is told of a pcapng file beside its packets.
     pub format: Format,
 }
 

@@ -7,6 +7,7 @@ mod counts;
 mod decoding;
 mod fields;
 mod line;
+mod link_types;
 mod listing;
 mod payload;
 mod sight;

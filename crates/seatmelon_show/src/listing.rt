@@ -13,6 +13,7 @@ use crate::choice::Choice;
 use crate::counts::{Counts, NO_COUNTS};
 use crate::decoding::decoding_of;
 use crate::line::{write_counts, write_end, write_head, write_line};
+use crate::link_types::write_other_link_type;
 use crate::sight::{Sight, sight_in};
 use rasta_pcap::stream::RecordReader;
 use rasta_pcap::{Buffered, CaptureTime, Fault, Record, Sink, Source};
@@ -155,6 +156,7 @@ fn list_records<R: Source, W: Sink>(
 fn write_tail<W: Sink>(writer: &mut W, listing: &Listing, format: Format) -> Result<(), Fault>
     ensures err { IfErr result (λ f. f ≡ write_failed) }
 {
+    write_other_link_type(writer, format)?;
     if let Some(fault) = listing.fault {
         write_end(writer, fault, format)?;
     }

@@ -163,18 +163,23 @@ the file ends inside record 2 (14 CutRecord): nothing from there on is listed
 packets listed: 1 of 1 in the window
 ";
 
-// Before the packet of the first record in a pcapng file: a section, an interface, and the front of the packet's block.
-const FRONT: &[u8] = b"\x0a\x0d\x0d\x0a\x1c\0\0\0\x4d\x3c\x2b\x1a\x01\0\0\0\
+// Before the link type of the interface in a pcapng file: a section, and the front of the interface's block.
+const SECTION: &[u8] = b"\x0a\x0d\x0d\x0a\x1c\0\0\0\x4d\x3c\x2b\x1a\x01\0\0\0\
     \xff\xff\xff\xff\xff\xff\xff\xff\x1c\0\0\0\
-    \x01\0\0\0\x14\0\0\0\x01\0\0\0\0\0\x04\0\x14\0\0\0\
+    \x01\0\0\0\x14\0\0\0";
+
+// Behind it, up to the packet of the first record.
+const FRONT: &[u8] = b"\0\0\0\0\x04\0\x14\0\0\0\
     \x06\0\0\0\x90\0\0\0\0\0\0\0HG\x06\0\0@ Fp\0\0\0p\0\0\0";
 
 // Behind it: the end of its block, and the front of a block that isn't there.
 const BEHIND: &[u8] = b"\x90\0\0\0\x06\0\0\0\x90\0\0\0";
 
-// The pcapng file, up to there.
-fn pcapng(alloc: Global, behind: &[u8]) -> Option<Vec<u8>> {
-    let mut file = Vec::from_slice(alloc, FRONT).ok()?;
+// The pcapng file, up to there, with an interface of this link type.
+fn pcapng(alloc: Global, link_type: u16, behind: &[u8]) -> Option<Vec<u8>> {
+    let mut file = Vec::from_slice(alloc, SECTION).ok()?;
+    file.extend_from_slice(&link_type.to_le_bytes()).ok()?;
+    file.extend_from_slice(FRONT).ok()?;
     file.extend_from_slice(&FILE[40..152]).ok()?;
     file.extend_from_slice(behind).ok()?;
     Some(file)
@@ -182,7 +187,7 @@ fn pcapng(alloc: Global, behind: &[u8]) -> Option<Vec<u8>> {
 
 // Whether the listing of the pcapng file up to there is what is wanted.
 fn is_pcapng_listed(alloc: Global, behind: &[u8], want: &'static str) -> Option<bool> {
-    is_listed(alloc, &pcapng(alloc, behind)?, &listing_of(want))
+    is_listed(alloc, &pcapng(alloc, 1, behind)?, &listing_of(want))
 }
 
 const ONE: &str = "       \
@@ -202,6 +207,17 @@ const CUT_BEFORE: &str = "\
 after 0 records, at byte 48: the file ends inside a block (14 CutRecord): nothing from there on is listed
 no packet of the recorded channels is in the window: check addresses and ports
 ";
+
+const COOKED: &str = "\
+an interface of this file has link type 276 (Linux cooked capture v2): its packets are of no connection
+no packet of the recorded channels is in the window: check addresses and ports
+";
+
+// Whether the listing of the pcapng file names the link type of its interface, which isn't one of Ethernet.
+fn is_cooked_listed(alloc: Global) -> Option<bool> {
+    let file = pcapng(alloc, 276, &BEHIND[..4])?;
+    is_listed(alloc, &file, &listing_of(COOKED))
+}
 
 const NONE: &str = "\
 no packet of the recorded channels is in the window: check addresses and ports
@@ -236,6 +252,7 @@ fn packets_of_a_pcapng_file(rt: HostRuntime) {
     assert_eq!(rt; is_pcapng_listed(alloc, &BEHIND[..4], ONE), Some(true));
     assert_eq!(rt; is_pcapng_listed(alloc, BEHIND, CUT_BEHIND), Some(true));
     assert_eq!(rt; is_pcapng_listed(alloc, b"", CUT_BEFORE), Some(true));
+    assert_eq!(rt; is_cooked_listed(alloc), Some(true));
 }
 
 #[test]

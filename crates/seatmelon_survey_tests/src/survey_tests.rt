@@ -4,7 +4,7 @@ use crate::files::file_with;
 use rasta_pcap::devices::{FailAt, Pieces};
 use rasta_pcap::{Counted, Fault, Sink, Source};
 use rasta_rows::file_of;
-use seatmelon_pcapng::{Format, Reason, Refusal};
+use seatmelon_pcapng::{Format, Reason, Refusal, Remarks};
 use seatmelon_survey::{Connection, Survey, survey, write_fault};
 use std::alloc::Global;
 
@@ -66,11 +66,19 @@ fn cut_capture(rt: HostRuntime) {
     assert_eq!(rt; refused, Some(Fault::at(Fault::CUT_HEADER, 0)));
 }
 
-// A pcapng file that is refused at a block.
-const REFUSED: Format = Format::Pcapng(Some(Refusal {
-    reason: Reason::Trailer,
-    at: 60,
-}));
+// A pcapng file that is refused at a block, and one that isn't.
+const REFUSED: Format = Format::Pcapng(Remarks {
+    refusal: Some(Refusal {
+        reason: Reason::Trailer,
+        at: 60,
+    }),
+    other_link_type: None,
+});
+
+const WHOLE: Format = Format::Pcapng(Remarks {
+    refusal: None,
+    other_link_type: None,
+});
 
 // Whether the text of a survey of the capture that is cut in its last record ends so, where its file was read in this format.
 fn ends_so(alloc: Global, format: Format, end: &str) -> Option<bool> {
@@ -85,7 +93,29 @@ fn cut_capture_of_a_pcapng_file(rt: HostRuntime) {
     let end = "\n\nafter 2 records, at byte 60: the two lengths of a block differ (14 CutRecord)\n";
     assert_eq!(rt; ends_so(rt.alloc(), REFUSED, end), Some(true));
     let end = "\n\nthe file ends inside record 3 (14 CutRecord)\n";
-    assert_eq!(rt; ends_so(rt.alloc(), Format::Pcapng(None), end), Some(true));
+    assert_eq!(rt; ends_so(rt.alloc(), WHOLE, end), Some(true));
+}
+
+// Whether the survey of a capture of no packets begins so, where its file has an interface of this link type.
+fn begins_so(alloc: Global, link_type: u16, begin: &str) -> Option<bool> {
+    let (_, file) = file_of(alloc, "data plain", "-")?;
+    let mut found = surveyed(alloc, &file, 7).ok()?;
+    found.set_format(Format::Pcapng(Remarks {
+        refusal: None,
+        other_link_type: Some(link_type),
+    }));
+    Some(text_of(alloc, &found)?.starts_with(begin.as_bytes()))
+}
+
+#[test]
+fn packets_of_other_link_types(rt: HostRuntime) {
+    let named = "records: 0\npackets of RaSTA: 0\nother records, passed over: 0\n\
+        an interface of this file has link type 276 (Linux cooked capture v2): its packets are of no connection\n\
+        no packet of a RaSTA connection\n";
+    assert_eq!(rt; begins_so(rt.alloc(), 276, named), Some(true));
+    let unnamed = "records: 0\npackets of RaSTA: 0\nother records, passed over: 0\n\
+        an interface of this file has link type 200: its packets are of no connection\n";
+    assert_eq!(rt; begins_so(rt.alloc(), 200, unnamed), Some(true));
 }
 
 // Whether a fault of a file in this format is told so.

@@ -175,6 +175,17 @@ fn write_file_fault<W: Sink>(
     }
 }
 
+// Writes which link type an interface of a file in this format has, if the format tells one other than that of
+// Ethernet.
+fn write_other_link_type<W: Sink>(writer: &mut W, format: Format) -> Result<(), Fault>
+    ensures err { IfErr result (λ f. f ≡ write_failed) }
+{
+    match format.other_link_type() {
+        Some(link_type) => write_parts(writer, &parts![",\"other_link_type\":", link_type]),
+        None => Ok(()),
+    }
+}
+
 /// Writes an audit of a file in this format as one JSON object and a line feed. The names stand in the order of the
 /// answers.
 pub fn write_audit_json<W: Sink>(
@@ -200,5 +211,6 @@ pub fn write_audit_json<W: Sink>(
         ],
     )?;
     write_file_fault(writer, audit.fault, format)?;
+    write_other_link_type(writer, format)?;
     write_words(writer, "}\n")
 }

@@ -6,7 +6,7 @@ use crate::counts::Counts;
 use rasta_pcap::{CaptureTime, Fault, Side, Sink};
 use seatmelon_audit::{Answer, Audit, Conveyed, Explained, Refusal, Subject};
 use seatmelon_pcapng::Format;
-use seatmelon_survey::write_fault;
+use seatmelon_survey::{write_fault, write_other_link_type};
 use seatmelon_text::{parts, write_parts, write_words};
 
 // What so many are called.
@@ -184,9 +184,9 @@ fn write_counts<W: Sink>(writer: &mut W, audit: &Audit) -> Result<(), Fault>
     )
 }
 
-/// Writes an audit in words: a line for each connection, with its name, in their order; what the fault of the file, which
-/// was read in this format, says, if it isn't whole; and how many there are of each kind. The names stand in the order of
-/// the answers.
+/// Writes an audit in words: a line for each connection, with its name, in their order; which link type an interface of
+/// the file has, if its format tells one other than that of Ethernet; what the fault of the file says, if it isn't whole;
+/// and how many there are of each kind. The names stand in the order of the answers.
 pub fn write_audit<W: Sink>(
     writer: &mut W,
     names: &[String],
@@ -198,6 +198,7 @@ pub fn write_audit<W: Sink>(
     for (name, answer) in names.iter().zip(audit.answers.iter()) {
         write_answer(writer, name.as_str(), answer)?;
     }
+    write_other_link_type(writer, format)?;
     write_fault_if(writer, audit.fault, format)?;
     write_counts(writer, audit)
 }

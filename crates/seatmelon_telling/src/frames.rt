@@ -62,10 +62,11 @@ pub fn refused_link_type(fault: Fault, header: Option<FileHeader>) -> Option<u16
     }
 }
 
-// Writes the name of a link type in brackets, if it has one.
-fn write_name<W: Sink>(writer: &mut W, link_type: u16) -> Result<(), Fault>
+/// Writes number and name of a link type, if it has a name.
+pub fn write_named<W: Sink>(writer: &mut W, link_type: u16) -> Result<(), Fault>
     ensures err { IfErr result (λ f. f ≡ write_failed) }
 {
+    write_parts(writer, &parts!["link type ", link_type])?;
     match link_type_name(link_type) {
         Some(name) => write_parts(writer, &parts![" (", name, ")"]),
         None => Ok(()),
@@ -83,8 +84,8 @@ pub fn write_link_type<W: Sink>(
     match refused_link_type(fault, header) {
         None | Some(ETHERNET) => Ok(()),
         Some(link_type) => {
-            write_parts(writer, &parts![" but of link type ", link_type])?;
-            write_name(writer, link_type)
+            write_words(writer, " but of ")?;
+            write_named(writer, link_type)
         }
     }
 }

@@ -15,24 +15,48 @@ use seatmelon_reading::{ChannelCount, Window};
 use seatmelon_text::json::{write_long, write_string};
 use seatmelon_text::{Part, parts, write_parts, write_words};
 
-// Writes a file's name, its SHA-256, and what else is told of it.
-fn write_file<W: Sink>(writer: &mut W, file: &File<'_>, more: &'static str) -> Result<(), Fault>
+// Writes a file's name and its SHA-256, as an object that is yet to be ended.
+fn begin_file<W: Sink>(writer: &mut W, file: &File<'_>) -> Result<(), Fault>
     ensures err { IfErr result (λ f. f ≡ write_failed) }
 {
     write_words(writer, "{\"name\":")?;
     write_string(writer, file.name)?;
     write_parts(
         writer,
-        &parts![",\"sha256\":\"", Part::Hex(&file.sum), "\"", more, "}"],
+        &parts![",\"sha256\":\"", Part::Hex(&file.sum), "\""],
     )
 }
 
-// In which format the capture was read, where that isn't the classic one.
-fn words_of_format(format: Format) -> &'static str {
-    match format {
-        Format::Classic => "",
-        Format::Pcapng(_) => ",\"format\":\"pcapng\"",
+// Writes a file's name and its SHA-256.
+fn write_file<W: Sink>(writer: &mut W, file: &File<'_>) -> Result<(), Fault>
+    ensures err { IfErr result (λ f. f ≡ write_failed) }
+{
+    begin_file(writer, file)?;
+    write_words(writer, "}")
+}
+
+// Writes in which format the capture was read, where that isn't the classic one, and which link type an interface has,
+// if the format tells one other than that of Ethernet.
+fn write_format<W: Sink>(writer: &mut W, format: Format) -> Result<(), Fault>
+    ensures err { IfErr result (λ f. f ≡ write_failed) }
+{
+    if !format.is_pcapng() {
+        return Ok(());
     }
+    write_words(writer, ",\"format\":\"pcapng\"")?;
+    match format.other_link_type() {
+        Some(link_type) => write_parts(writer, &parts![",\"other_link_type\":", link_type]),
+        None => Ok(()),
+    }
+}
+
+// Writes name, SHA-256 and format of the capture.
+fn write_capture<W: Sink>(writer: &mut W, account: &Account<'_>) -> Result<(), Fault>
+    ensures err { IfErr result (λ f. f ≡ write_failed) }
+{
+    begin_file(writer, &account.capture)?;
+    write_format(writer, account.format)?;
+    write_words(writer, "}")
 }
 
 // Writes the name and the SHA-256 of the certificate, if one was given.
@@ -40,7 +64,7 @@ fn write_certificate<W: Sink>(writer: &mut W, file: Option<&File<'_>>) -> Result
     ensures err { IfErr result (λ f. f ≡ write_failed) }
 {
     match file {
-        Some(file) => write_file(writer, file, ""),
+        Some(file) => write_file(writer, file),
         None => write_words(writer, "null"),
     }
 }
@@ -50,9 +74,9 @@ fn write_files<W: Sink>(writer: &mut W, account: &Account<'_>) -> Result<(), Fau
     ensures err { IfErr result (λ f. f ≡ write_failed) }
 {
     write_words(writer, ",\"capture\":")?;
-    write_file(writer, &account.capture, words_of_format(account.format))?;
+    write_capture(writer, account)?;
     write_words(writer, ",\"parameters\":")?;
-    write_file(writer, &account.parameters, "")?;
+    write_file(writer, &account.parameters)?;
     write_words(writer, ",\"certificate\":")?;
     write_certificate(writer, account.certificate.as_ref())
 }

@@ -2,6 +2,7 @@
 ghost use Rattle.std.specs.Prelude.{◌≡◌, IfErr};
 ghost use Rattle.rasta_pcap.specs.Fault.{write_failed};
 
+use crate::frames::write_named;
 use crate::notes::{write_passed_over, write_times};
 use rasta_pcap::{Fault, Sink};
 use rasta_pdu::Params;
@@ -32,14 +33,30 @@ fn write_file<W: Sink>(writer: &mut W, what: &str, file: &File<'_>) -> Result<()
     )
 }
 
+// Writes of which link type an interface is that isn't one of Ethernet, and what becomes of its packets.
+fn write_interface<W: Sink>(writer: &mut W, link_type: u16) -> Result<(), Fault>
+    ensures err { IfErr result (λ f. f ≡ write_failed) }
+{
+    write_words(writer, "; an interface of it has ")?;
+    write_named(writer, link_type)?;
+    write_words(
+        writer,
+        ", and its packets are passed over as not IPv4 or UDP",
+    )
+}
+
 // Writes in which format the capture was read, where that isn't the classic one.
 fn write_format<W: Sink>(writer: &mut W, format: Format) -> Result<(), Fault>
     ensures err { IfErr result (λ f. f ≡ write_failed) }
 {
-    match format {
-        Format::Classic => Ok(()),
-        Format::Pcapng(_) => write_words(writer, "    read as pcapng\n"),
+    if !format.is_pcapng() {
+        return Ok(());
     }
+    write_words(writer, "    read as pcapng")?;
+    if let Some(link_type) = format.other_link_type() {
+        write_interface(writer, link_type)?;
+    }
+    write_words(writer, "\n")
 }
 
 // Writes the name and the SHA-256 of the certificate, if one was given.

@@ -2,8 +2,8 @@ use Rattle.std.proofs.Common.{◌≡◌, ◌+◌, ◌%◌, ◌^◌, ◌++◌, re
 use Rattle.std.specs.List.{flat_map}
 use Rattle.seatmelon_pcapng.specs.Memory.{bytes_held, bytes_of}
 use Rattle.seatmelon_pcapng.specs.Readings.{packet_bytes, packets_in}
-use Rattle.seatmelon_pcapng.specs.Sections.{interfaces_in, order_in}
-use Rattle.seatmelon_pcapng.proofs.Refusals.{refusal-gone}
+use Rattle.seatmelon_pcapng.specs.Sections.{interfaces_in, order_in, other_met}
+use Rattle.seatmelon_pcapng.proofs.Staying.{remarks-gone}
 use Rattle.seatmelon_pcapng.proofs.Ways.{left-gone}
 use Rattle.seatmelon_pcapng.proofs.classic.Classic.go.Goals as goal
 
@@ -19,11 +19,11 @@ returns-clause-left g c =
     (order_in c.pass.new.self) (interfaces_in c.pass.new.self) ((old.at + front.len) % 2 ^ 64) (bytes_held c.spell.new.held) (bytes_of c.pass-2.new.self)
     c.in_ok-pass.ensures.order c.in_ok-pass.ensures.interfaces refl spelled c.pass-2.ensures
 
-pub returns-clause-refusal : goal.returns-clause-refusal
-returns-clause-refusal g c =
+pub returns-clause-remarks : goal.returns-clause-remarks
+returns-clause-remarks g c =
     let old = c.args.self.now in
     let front = c.args.front in
-    refusal-gone (order_in old.section) (interfaces_in old.section) old.at (bytes_of old.blocks) (g.S.Source.remaining old.source) old.progress front c.args.turn.now
+    remarks-gone (other_met old.section) (order_in old.section) (interfaces_in old.section) old.at (bytes_of old.blocks) (g.S.Source.remaining old.source) old.progress front c.args.turn.now
     c.requires.reading c.requires.next c.requires.whole
-    (order_in c.pass.new.self) (interfaces_in c.pass.new.self) ((old.at + front.len) % 2 ^ 64) (bytes_of c.pass-2.new.self)
-    c.in_ok-pass.ensures.order c.in_ok-pass.ensures.interfaces refl c.pass-2.ensures
+    (other_met c.pass.new.self) (order_in c.pass.new.self) (interfaces_in c.pass.new.self) ((old.at + front.len) % 2 ^ 64) (bytes_of c.pass-2.new.self)
+    c.in_ok-pass.ensures.other c.in_ok-pass.ensures.order c.in_ok-pass.ensures.interfaces refl c.pass-2.ensures

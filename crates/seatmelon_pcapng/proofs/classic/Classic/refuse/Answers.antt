@@ -1,8 +1,8 @@
 use Rattle.std.proofs.Common.{◌≡◌, ◌∙◌, [], ◌∷◌, ◌++◌, ap, sym}
 use Rattle.std.specs.Io.KnownBytes.{prepend_known}
 use Rattle.seatmelon_pcapng.specs.Memory.{bytes_held, bytes_of}
-use Rattle.seatmelon_pcapng.specs.Sections.{interfaces_in, order_in}
-use Rattle.seatmelon_pcapng.proofs.Refusals.{refusal-met}
+use Rattle.seatmelon_pcapng.specs.Sections.{interfaces_in, order_in, other_met}
+use Rattle.seatmelon_pcapng.proofs.Staying.{remarks-met}
 use Rattle.seatmelon_pcapng.proofs.Ways.{left-refused, not_err_so}
 use Rattle.seatmelon_pcapng.proofs.classic.Classic.refuse.Goals as goal
 
@@ -15,9 +15,9 @@ returns-clause-left g c =
     left-refused (order_in old.section) (interfaces_in old.section) old.at (bytes_held old.held) c.requires.none
     (prepend_known (bytes_of old.blocks) (g.S.Source.remaining old.source)) old.progress c.args.reason (bytes_held c.put.new.self) c.requires.reading c.requires.next mark
 
-pub returns-clause-refusal : goal.returns-clause-refusal
-returns-clause-refusal g c =
+pub returns-clause-remarks : goal.returns-clause-remarks
+returns-clause-remarks g c =
     let old = c.args.self.now in
     let known = prepend_known (bytes_of old.blocks) (g.S.Source.remaining old.source) in
-    refusal-met (order_in old.section) (interfaces_in old.section) old.at known old.progress c.args.reason
+    remarks-met (other_met old.section) (order_in old.section) (interfaces_in old.section) old.at known old.progress c.args.reason
     c.requires.reading c.requires.next

@@ -1,23 +1,11 @@
-use Rattle.std.proofs.Common.{take, []}
-use Rattle.std.proofs.KnownBytes.{Consumes-kept, Consumes-nil}
-use Rattle.seatmelon_pcapng.specs.Classics.{left_in, rest_in}
-use Rattle.seatmelon_pcapng.specs.Memory.{bytes_held}
-use Rattle.seatmelon_pcapng.specs.Sections.{interfaces_in, order_in}
-use Rattle.seatmelon_pcapng.proofs.Gives.{noted-more}
-use Rattle.seatmelon_pcapng.proofs.Ways.{left-given}
+use Rattle.std.proofs.Common.{[], take, subst}
+use Rattle.rasta_pcap.specs.Noting.{NotesOn, given}
+use Rattle.rasta_pcap.proofs.Noting.{NotesOn-then}
+use Rattle.seatmelon_pcapng.specs.Giving.{noted_by}
 use Rattle.seatmelon_pcapng.proofs.classic.ClassicSource.read.Goals as goal
 
-pub returns-in-Ok-clause-noted : goal.returns-in-Ok-clause-noted
-returns-in-Ok-clause-noted g c =
-    let ready = c.prepare.new.self in
-    let remaining = g.S.Source.remaining in
-    let given = left-given (order_in ready.section) (interfaces_in ready.section) ready.at (bytes_held ready.held) (bytes_held c.give.new.self)
-    (take c.give.result c.give.new.buf) c.give.ensures.given (left_in remaining c.args.self.now) (rest_in remaining ready) ready.progress c.prepare.ensures.left in
-    noted-more remaining g.S.Source.notes c.args.self.now _ (take c.give.result c.give.new.buf) c.prepare.ensures.passed given c.prepare.ensures.refusal
-
-pub returns-in-Err-clause-noted : goal.returns-in-Err-clause-noted
-returns-in-Err-clause-noted g c =
-    let remaining = g.S.Source.remaining in
-    let old = left_in remaining c.args.self.now in
-    noted-more remaining g.S.Source.notes c.args.self.now _ [] c.prepare.ensures.passed
-    (Consumes-kept old old (left_in remaining c.prepare.new.self) [] (Consumes-nil old) c.prepare.ensures.left) c.prepare.ensures.refusal
+pub returns-in-0-clause-noted : goal.returns-in-0-clause-noted
+returns-in-0-clause-noted g c =
+    let notes = noted_by g.S.Source.remaining g.S.Source.notes in
+    NotesOn-then notes c.args.self.now c.fill.new.self c.give.new.self [] (given c.give.result c.give.new.buf)
+    (subst (λ n. NotesOn notes c.args.self.now c.fill.new.self (take n c.fill.new.buf)) c.in-0.is c.fill.ensures.noted) c.give.ensures.noted
