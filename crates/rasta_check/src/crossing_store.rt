@@ -315,7 +315,7 @@ impl Store {
 
     // Adds the packet of a record.
     #[tactic(auto, unfolding(crate::specs::Capture::Reading::after_packet))]
-    fn add_packet(&mut self, number: u32, found: &Datagram<'_>) -> Result<(), Fault>
+    pub(crate) fn add_packet(&mut self, number: u32, found: &Datagram<'_>) -> Result<(), Fault>
         requires { IsRecorded self.old.params found.now.channel }
         ensures value { MatchResult result
             (λ _. after_packet self.old number (packet_of found.now) ≡ Ok self.new)

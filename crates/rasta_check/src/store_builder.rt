@@ -1,12 +1,15 @@
 //! What crosses by the records of a capture, one after the other.
 ghost use Rattle.std.specs.Prelude.{◌≡◌, ◌⊎◌, Ok, Err, MatchResult, OnErr};
 ghost use Rattle.rasta_pcap.specs.Fault.{no_memory};
-ghost use Rattle.rasta_check.specs.Capture.Reading.{after_record, nothing_crossed, packet_at};
+ghost use Rattle.rasta_udp.specs.Frame.{packet_of};
+ghost use Rattle.rasta_check.specs.Capture.Crossing.{IsRecorded};
+ghost use Rattle.rasta_check.specs.Capture.Reading.{after_packet, after_record, nothing_crossed, packet_at};
 
 use crate::crossing_store::Store;
 use crate::passage::Passage;
 use rasta_pcap::{Fault, Record};
 use rasta_pdu::Params;
+use rasta_udp::Datagram;
 use std::alloc::Global;
 
 /// Takes the records of a capture in one by one, and keeps what crosses by them, as [`store`](crate::store) reads it
@@ -43,6 +46,19 @@ impl StoreBuilder {
         ensures kept { OnErr result (crossed_in self.new ≡ crossed_in self.old) }
     {
         self.store.add_record(record)
+    }
+
+    /// Takes in a packet on a channel of the connection, as if the record of this number held it in the window.
+    ///
+    /// Refused as a record's packet is by [`StoreBuilder::add`]; what crossed before stays as it is then.
+    pub fn add_packet(&mut self, number: u32, packet: &Datagram<'_>) -> Result<(), Fault>
+        requires { IsRecorded (crossed_in self.old).params packet.now.channel }
+        ensures value { MatchResult result
+            (λ _. after_packet (crossed_in self.old) number (packet_of packet.now) ≡ Ok (crossed_in self.new))
+            (λ f. (f ≡ no_memory) ⊎ (after_packet (crossed_in self.old) number (packet_of packet.now) ≡ Err f)) }
+        ensures kept { OnErr result (crossed_in self.new ≡ crossed_in self.old) }
+    {
+        self.store.add_packet(number, packet)
     }
 
     /// What has crossed so far.

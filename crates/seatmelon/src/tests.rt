@@ -43,11 +43,13 @@ fn explaining_text(alloc: Global, explaining: &Explaining<'_>) -> Option<String>
         parameters,
         certificate,
         without,
+        suppose,
         form,
     } = explaining;
     let certificate = certificate.unwrap_or("-");
     let form = form_text(alloc, *form)?;
-    format!(in alloc; "explain {capture} {parameters} {certificate} {without:?} {form}").ok()
+    let suppose = suppose.unwrap_or(0);
+    format!(in alloc; "explain {capture} {parameters} {certificate} {without:?} {suppose} {form}").ok()
 }
 
 fn showing_text(alloc: Global, showing: &Showing<'_>) -> Option<String> {
@@ -144,20 +146,22 @@ show c p --types data | show c p Some([Data]) 1 4294967295
 show c p --types=6212,RETRRESP --record 7 | show c p Some([RetransmissionRequest, RetransmissionResponse]) 7 7
 show --record 3-9 c p --types ConnReq,ConnResp,DiscReq,HB,RetrData,heartbeat | show c p \
 Some([ConnectionRequest, ConnectionResponse, DisconnectionRequest, Heartbeat, RetransmittedData, Heartbeat]) 3 9
-explain c p | explain c p - [] Text
-explain c p z | explain c p z [] Text
-explain -- -c -p -z | explain -c -p -z [] Text
-explain c p --without 7 | explain c p - [7] Text
-explain --without=7 c p z | explain c p z [7] Text
-explain c --without 9 p --without 2 z --without 9 | explain c p z [2, 9] Text
-explain c p --without 1 --without 4294967295 | explain c p - [1, 4294967295] Text
-explain c p --json | explain c p - [] Json
-explain --json c --without 7 p z | explain c p z [7] Json
-explain c p --summary | explain c p - [] None false
-explain c p --whole | explain c p - [] Some(Selection { numbers: None, not_shown: false, of_record: None }) true
-explain c p --messages 3-7 --not-shown --record 9 | explain c p - [] \
+explain c p | explain c p - [] 0 Text
+explain c p z | explain c p z [] 0 Text
+explain -- -c -p -z | explain -c -p -z [] 0 Text
+explain c p --without 7 | explain c p - [7] 0 Text
+explain --without=7 c p z | explain c p z [7] 0 Text
+explain c --without 9 p --without 2 z --without 9 | explain c p z [2, 9] 0 Text
+explain c p --without 1 --without 4294967295 | explain c p - [1, 4294967295] 0 Text
+explain c p --json | explain c p - [] 0 Json
+explain c p --suppose 1 | explain c p - [] 1 Text
+explain --suppose=16 c --without 7 p --json | explain c p - [7] 16 Json
+explain --json c --without 7 p z | explain c p z [7] 0 Json
+explain c p --summary | explain c p - [] 0 None false
+explain c p --whole | explain c p - [] 0 Some(Selection { numbers: None, not_shown: false, of_record: None }) true
+explain c p --messages 3-7 --not-shown --record 9 | explain c p - [] 0 \
 Some(Selection { numbers: Some((3, 7)), not_shown: true, of_record: Some(9) }) false
-explain c p --messages 0 | explain c p - [] Some(Selection { numbers: Some((0, 0)), not_shown: false, of_record: None }) false
+explain c p --messages 0 | explain c p - [] 0 Some(Selection { numbers: Some((0, 0)), not_shown: false, of_record: None }) false
 --help | DisplayHelp
 help | DisplayHelp
 survey --help | DisplayHelp
@@ -211,6 +215,11 @@ explain c p --not-shown --json | ArgumentConflict
 explain c p --without 0 | ValueValidation
 explain c p --without 4294967296 | ValueValidation
 explain c p --without x | ValueValidation
+explain c p --suppose 0 | ValueValidation
+explain c p --suppose 17 | ValueValidation
+explain c p --suppose | InvalidValue
+explain c p z --suppose 1 | ArgumentConflict
+audit c p --suppose 1 | UnknownArgument
 explain c p --without | InvalidValue
 explain c p --json 1 2 | UnknownArgument
 explain c p --json=1 | TooManyValues
@@ -712,6 +721,7 @@ fn explaining<'a>(alloc: Global) -> Explaining<'a> {
         parameters: "p",
         certificate: None,
         without: Vec::new(alloc),
+        suppose: None,
         form: Form::Text(Extent::ALL),
     }
 }

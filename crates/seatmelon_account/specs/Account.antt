@@ -1,5 +1,5 @@
 -- What an account tells of what was read.
-use Rattle.std.specs.Prelude.{◌≡◌, ℕ, List, [], ◌∷◌, length, take, filter, Option, None, Some, option_map}
+use Rattle.std.specs.Prelude.{◌≡◌, ℕ, List, [], ◌∷◌, length, take, filter, Option, None, Some, IfSome, option_map}
 use Rattle.sha2.specs.Sha256.{sha256}
 use Rattle.rasta_pcap.specs.declared.fault.Side.TheVariants.{Client, Server}
 use Rattle.rasta_pdu.specs.Params.{Parameters}
@@ -11,6 +11,7 @@ use Rattle.seatmelon_reading.specs.declared.notes.Sighting.{Sighting}
 use Rattle.seatmelon_reading.specs.declared.reading.Reading.{Reading}
 use Rattle.seatmelon_reading.specs.declared.silence.Silence.{Silence}
 use Rattle.seatmelon_reading.specs.Silences.{IsLongestSilence, is_untimed}
+use Rattle.seatmelon_account.specs.Hypotheses.{IsHypothesis}
 use Rattle.seatmelon_account.specs.Messages.{IsDirection}
 use Rattle.seatmelon_account.specs.Offers.{AreOffers}
 use Rattle.seatmelon_account.specs.Refusals.{TellsPlace, TellsRecord}
@@ -64,3 +65,4 @@ pub record IsAccount (i : Inputs) (r : Reading) (a : Account) : Type 0 where
   pub silences : AreSilences r.notes.packets.items a.silences
   pub offers : AreOffers i.params.now.n_sendmax r.store a.offers
   pub verdict : IsToldOf i.params.now r.store r.refusal (text_in i) a.verdict
+  pub hypothesis : IfSome a.hypothesis (IsHypothesis i.params.now r.notes.tape)

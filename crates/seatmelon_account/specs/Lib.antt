@@ -4,6 +4,7 @@ pub mod Deadlines
 pub mod Differences
 pub mod Fields
 pub mod Gaps
+pub mod Hypotheses
 pub mod Layouts
 pub mod Messages
 pub mod Offers

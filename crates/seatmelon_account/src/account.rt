@@ -1,15 +1,17 @@
 //! What is told of a capture.
-ghost use Rattle.std.specs.Prelude.{◌≡◌, ◌<◌, ◌^◌, take, None, length, IfErr, IfOk};
+ghost use Rattle.std.specs.Prelude.{◌≡◌, ◌<◌, ◌^◌, take, None, length, is_some, IfErr, IfOk, IfSome};
 ghost use Rattle.sha2.specs.Sha256.{sha256};
 ghost use Rattle.rasta_pcap.specs.Fault.{no_memory};
 ghost use Rattle.rasta_verdict.specs.declared.verdict.Verdict.TheVariants as verdicts;
 ghost use Rattle.rasta_verdict.specs.Given.{IsVerdictOn};
 ghost use Rattle.seatmelon_reading.specs.PassedOver.{total_of};
+ghost use Rattle.seatmelon_account.specs.Hypotheses.{IsHypothesis, IsSupposed};
 ghost use Rattle.seatmelon_account.specs.Account.{AreSilences, IsAccount, IsToldOf, text_in};
 ghost use Rattle.seatmelon_account.specs.Messages.{IsDirection};
 
 use crate::crossed::list_of;
 use crate::explained::{Explained, start_of};
+use crate::hypothesis::{Hypothesis, hypothesis_of};
 use crate::messages::direction_of;
 use crate::offers::{Offers, offers_in};
 use crate::refusal::{Refusal, capture_refusal, scripts_refusal, unscripted};
@@ -24,6 +26,7 @@ use seatmelon_reading::{
     ChannelCount, PassedOver, Reading, Sighting, Silence, TimeNotes, Window, count_untimed,
     longest_silence, window_in,
 };
+use seatmelon_suppose::Supposition;
 use sha2::{Digest, Sha256};
 use std::alloc::Global;
 
@@ -51,6 +54,9 @@ pub struct Inputs<'a> {
 
     /// The records that are left out, by their rising numbers.
     pub without: &'a [u32],
+
+    /// How many PDUs the tap may be supposed to have missed, if any.
+    pub suppose: Option<u32>,
 }
 
 /// A file that was read, and its SHA-256.
@@ -124,6 +130,9 @@ pub struct Account<'a> {
     pub offers: Offers,
 
     pub verdict: Verdict<'a>,
+
+    /// What is supposed of a capture that is refused at a gap, where that was asked for.
+    pub hypothesis: Option<Hypothesis<'a>>,
 }
 
 impl<'a> Account<'a> {
@@ -248,13 +257,35 @@ fn channels_in<'a>(params: &Params, counts: &'a [ChannelCount]) -> &'a [ChannelC
     &counts[..recorded.min(counts.len())]
 }
 
-/// What is told of a capture that was read. Refused by [`Fault::NO_MEMORY`] alone.
+// What is told of what is supposed, if anything is.
+fn hypothesis_in<'a>(
+    alloc: Global,
+    params: &Params,
+    reading: &'a Reading,
+    supposition: Option<Supposition>,
+) -> Result<Option<Hypothesis<'a>>, Fault>
+    requires { IfSome supposition (λ s. IsSupposed params.now reading.now.notes.tape s) }
+    ensures hypothesis { IfOk result (λ h. IfSome h (IsHypothesis params.now reading.now.notes.tape)) }
+    ensures told { IfOk result (λ h. is_some h ≡ is_some supposition) }
+    ensures err { IfErr result (λ f. f ≡ no_memory) }
+{
+    match supposition {
+        Some(supposition) => Ok(Some(hypothesis_of(alloc, params, &reading.notes, supposition)?)),
+        None => Ok(None),
+    }
+}
+
+/// What is told of a capture that was read, and of what is supposed of it, if anything is. Refused by [`Fault::NO_MEMORY`]
+/// alone.
 pub fn account_of<'a>(
     alloc: Global,
     inputs: &Inputs<'a>,
     reading: &'a Reading,
+    supposition: Option<Supposition>,
 ) -> Result<Account<'a>, Fault>
+    requires { IfSome supposition (λ s. IsSupposed inputs.now.params.now reading.now.notes.tape s) }
     ensures account { IfOk result (IsAccount inputs.now reading.now) }
+    ensures told { IfOk result (λ a. is_some a.hypothesis ≡ is_some supposition) }
     ensures err { IfErr result (λ f. f ≡ no_memory) }
 {
     let Inputs { names, texts, .. } = *inputs;
@@ -283,5 +314,6 @@ pub fn account_of<'a>(
         silences: silences_in(notes.packets.as_slice()),
         offers: offers_in(inputs.params, &reading.store),
         verdict: verdict_on(alloc, inputs, reading)?,
+        hypothesis: hypothesis_in(alloc, inputs.params, reading, supposition)?,
     })
 }

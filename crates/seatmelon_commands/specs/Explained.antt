@@ -18,4 +18,5 @@ IsCaptureExplained explaining inputs file = IsFileExplained inputs.params explai
 pub record IsGivenFor (explaining : Explaining) (inputs : Inputs) (g : given.Inputs) : Type 0 where
   pub params : g.params.now ≡ inputs.params
   pub without : g.without.now ≡ explaining.without.items
+  pub suppose : g.suppose ≡ explaining.suppose
   pub certificate : outcomes.certificate_in g.texts ≡ certificate_in inputs

@@ -30,6 +30,10 @@ pub struct Explaining<'a> {
     pub parameters: &'a str,
     pub certificate: Option<&'a str>,
     pub without: Vec<u32>,
+
+    /// How many PDUs the tap may be supposed to have missed, if any.
+    pub suppose: Option<u32>,
+
     pub form: Form,
 }
 
@@ -64,6 +68,7 @@ fn given<'a>(explaining: &'a Explaining<'_>, inputs: &'a Inputs) -> seatmelon_ex
         },
         params: &inputs.params,
         without: explaining.without.as_slice(),
+        suppose: explaining.suppose,
     }
 }
 

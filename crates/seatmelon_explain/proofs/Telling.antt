@@ -26,7 +26,7 @@ verdict_explained p k refusal text (verdicts.Explained e) told is = (told.0, (to
 -- so does the account of what was read; there is one where no record that is to be left out is missing
 told_if : (missing : Option ℕ) (i : Inputs) (r : Reading) (o : Outcome) → IsToldIf missing i r o → o ≡ outcomes.Explained
     → (r.refusal ≡ None) × IsExplained r.store (text_in i)
-told_if None i r o told is = verdict_explained i.params.now r.store r.refusal (text_in i) told.0.verdict told.1.verdict (sym is ∙ told.2)
+told_if None i r o told is = verdict_explained i.params.now r.store r.refusal (text_in i) told.0.verdict told.1.verdict (sym is ∙ told.3)
 told_if (Some number) i r o told is = absurd (cc)
 
 told_explained : (i : Inputs) (r : Reading) (o : Outcome) → IsToldBy i r o → o ≡ outcomes.Explained → (r.refusal ≡ None) × IsExplained r.store (text_in i)

@@ -1,5 +1,5 @@
 -- What an outcome says of a capture.
-use Rattle.std.specs.Prelude.{◌≡◌, ℕ, List, Option, None, Some, Ok, option_map, nat_lt, ⊤}
+use Rattle.std.specs.Prelude.{◌≡◌, ℕ, List, Bool, false, ◌&&◌, Option, None, Some, is_some, Ok, option_map, nat_eq, nat_lt, ⊤}
 use Rattle.std.specs.List.{find}
 use Rattle.rasta_pdu.specs.Params.{Parameters}
 use Rattle.rasta_check.specs.Capture.Reading.{Crossing}
@@ -14,6 +14,7 @@ use Rattle.seatmelon_explain.specs.declared.explaining.Outcome.{Outcome}
 use Rattle.seatmelon_explain.specs.declared.explaining.Outcome.TheVariants as outcomes
 use Rattle.seatmelon_pcapng.specs.Formats.{capture_of}
 use Rattle.seatmelon_reading.specs.Reading.{IsReading, crossing_without}
+use Rattle.seatmelon_reading.specs.declared.capture_refusal.CaptureRefusal.{CaptureRefusal}
 use Rattle.seatmelon_reading.specs.declared.reading.Reading.{Reading}
 
 -- what the verdict of an account comes to
@@ -46,9 +47,19 @@ NamesRecord outcomes.Refused = ⊥
 NamesRecord outcomes.NoPackets = ⊥
 NamesRecord (outcomes.NoRecord number records) = ⊤
 
+-- a gap in the numbers of an end refuses the capture
+abbrev pub is_gap : Option CaptureRefusal → Bool
+is_gap None = false
+is_gap (Some refusal) = nat_eq refusal.fault.number 28
+
+-- PDUs are to be supposed, and the packets were kept for it
+abbrev pub asks_supposed : Inputs → Reading → Bool
+asks_supposed inputs reading = is_some inputs.suppose && (reading.notes.tape.is_kept && is_gap reading.refusal)
+
 -- where no record that is to be left out is missing, an account of what was read comes to this
 abbrev pub IsToldIf : Option ℕ → Inputs → Reading → Outcome → Type 0
-IsToldIf None inputs reading outcome = (a : Account) × IsAccount inputs reading a × (outcome ≡ outcome_in a.verdict)
+IsToldIf None inputs reading outcome = (a : Account) × IsAccount inputs reading a × (is_some a.hypothesis ≡ asks_supposed inputs reading)
+    × (outcome ≡ outcome_in a.verdict)
 IsToldIf (Some number) inputs reading outcome = outcome ≡ outcomes.NoRecord number reading.notes.records
 
 abbrev pub IsToldBy : Inputs → Reading → Outcome → Type 0

@@ -1,12 +1,14 @@
 //! A verdict on a capture, in words or as data.
-ghost use Rattle.std.specs.Prelude.{◌≡◌, ◌⊎◌, IfErr, IfOk};
+ghost use Rattle.std.specs.Prelude.{◌≡◌, ◌⊎◌, is_some, IfErr, IfOk, IfSome};
 ghost use Rattle.rasta_pcap.specs.Fault.{no_memory, read_failed, write_failed};
-ghost use Rattle.seatmelon_explain.specs.Outcomes.{IsFileExplained, IsFileTold, IsMissing, IsSomeExplained, IsToldBy, NamesRecord, certificate_in, outcome_in};
+ghost use Rattle.seatmelon_account.specs.Hypotheses.{IsSupposed};
+ghost use Rattle.seatmelon_explain.specs.Outcomes.{asks_supposed, IsFileExplained, IsFileTold, IsMissing, IsSomeExplained, IsToldBy, NamesRecord, certificate_in, outcome_in};
 ghost use Rattle.seatmelon_explain.specs.declared.explaining.Outcome.TheVariants.{Explained};
 
 use rasta_pcap::{Fault, Sink, Source};
 use seatmelon_account::{Account, Extent, Inputs, Verdict, account_of};
 use seatmelon_reading::{Reading, read_capture};
+use seatmelon_suppose::{Supposition, suppose};
 use seatmelon_telling::{write_json, write_text};
 use std::alloc::Global;
 
@@ -64,6 +66,24 @@ fn missing_record(without: &[u32], records: u32) -> Option<u32>
     without.iter().copied().find(|number| *number > records)
 }
 
+// What is supposed of a capture that is refused at a gap, where that was asked for.
+fn supposed(
+    alloc: Global,
+    inputs: &Inputs<'_>,
+    reading: &Reading,
+) -> Result<Option<Supposition>, Fault>
+    ensures supposed { IfOk result (λ s. IfSome s (IsSupposed inputs.now.params.now reading.now.notes.tape)) }
+    ensures asked { IfOk result (λ s. is_some s ≡ asks_supposed inputs.now reading.now) }
+    ensures err { IfErr result (λ f. f ≡ no_memory) }
+{
+    let tape = &reading.notes.tape;
+    match (inputs.suppose, &reading.refusal) {
+        (Some(most), Some(refusal)) if tape.is_kept && refusal.fault.number == Fault::NUMBER_GAP =>
+            { Ok(Some(suppose(alloc, inputs.params, &tape.packets, most)?)) }
+        _ => Ok(None),
+    }
+}
+
 // Writes what is told of what was read.
 fn tell<W: Sink>(
     alloc: Global,
@@ -81,7 +101,8 @@ fn tell<W: Sink>(
     if let Some(number) = missing_record(inputs.without, records) {
         return Ok(Outcome::NoRecord { number, records });
     }
-    let account = account_of(alloc, inputs, reading)?;
+    let supposition = supposed(alloc, inputs, reading)?;
+    let account = account_of(alloc, inputs, reading, supposition)?;
     write_account(form, &account, writer)?;
     Ok(outcome_of(&account))
 }
@@ -108,6 +129,7 @@ pub fn explain<R: Source, W: Sink>(
     ensures err { IfErr result (λ f. (f ≡ no_memory) ⊎ ((f ≡ read_failed) ⊎ (f ≡ write_failed))) }
     ensures silent { IfErr result (λ f. (f ≡ write_failed) ⊎ (writer.new ≡ writer.old)) }
 {
-    let reading = read_capture(alloc, inputs.params, inputs.without, reader)?;
+    let is_taped = inputs.suppose.is_some();
+    let reading = read_capture(alloc, inputs.params, inputs.without, is_taped, reader)?;
     tell(alloc, inputs, form, &reading, writer)
 }

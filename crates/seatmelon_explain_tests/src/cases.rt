@@ -15,8 +15,8 @@ use std::alloc::Global;
 /// What stands before each case of a table.
 pub const MARK: &str = "== ";
 
-/// A capture of `rasta_rows`, the changes of its bytes, the records that are left out, the parameters that a word names,
-/// a certificate, with `; ` in the place of each line feed, what the case has of its own, and what is wanted.
+/// A capture of `rasta_rows`, the changes of its bytes, the records that are left out, with `suppose=N` where PDUs are to be
+/// supposed, the parameters that a word names, a certificate, with `; ` in the place of each line feed, what the case has of its own, and what is wanted.
 #[derive(Clone, Copy)]
 pub struct Case<'a> {
     pub settings: &'a str,
@@ -53,6 +53,7 @@ pub struct Given {
     pub params: Params,
     pub file: Vec<u8>,
     pub without: Vec<u32>,
+    pub suppose: Option<u32>,
     certificate: String,
 }
 
@@ -83,10 +84,22 @@ fn file_in(alloc: Global, case: &Case<'_>) -> Option<Vec<u8>> {
     Some(file)
 }
 
+// How many PDUs may be supposed, in words beside numbers: `suppose=N`.
+fn suppose_in(words: &str) -> Option<u32> {
+    for word in words.split_whitespace() {
+        if let Some(most) = word.strip_prefix("suppose=") {
+            return most.parse().ok();
+        }
+    }
+    None
+}
+
 fn numbers_in(alloc: Global, words: &str) -> Option<Vec<u32>> {
     let mut numbers = Vec::new(alloc);
     for word in words.split_whitespace() {
-        numbers.push(word.parse().ok()?).ok()?;
+        if !word.contains('=') {
+            numbers.push(word.parse().ok()?).ok()?;
+        }
     }
     Some(numbers)
 }
@@ -98,6 +111,7 @@ impl Case<'_> {
             params: params_of(self.parameters)?,
             file: file_in(alloc, self)?,
             without: numbers_in(alloc, self.without)?,
+            suppose: suppose_in(self.without),
             certificate: self.certificate.replace(alloc, "; ", "\n").ok()?,
         })
     }

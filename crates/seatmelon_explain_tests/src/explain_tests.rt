@@ -37,6 +37,7 @@ pub fn written<'a, R: Source, W: Sink>(
         texts,
         params,
         without: given.without.as_slice(),
+        suppose: given.suppose,
     };
     explain(alloc, &inputs, form, reader, writer)
 }

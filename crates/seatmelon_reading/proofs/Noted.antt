@@ -13,11 +13,14 @@ use Rattle.rasta_udp.specs.Frame.{Packet, packet_in}
 use Rattle.rasta_pdu.specs.Params.{Parameters}
 use Rattle.rasta_check.specs.declared.passage.Passage.{Passage}
 use Rattle.rasta_check.specs.Capture.Passages.{passage_of}
-use Rattle.seatmelon_reading.specs.Noted.{AreNotes, Seen, all_seen, count_on, count_with, counts_of, is_before, is_client, is_clients, is_servers, is_behind, is_inside, is_left_out, passage_seen, passed_over, seen_by, seen_in, seen_inside, sighting_of}
+use Rattle.rasta_check.specs.Capture.Reading.{packet_found}
+use Rattle.seatmelon_reading.specs.Noted.{AreNotes, Seen, all_seen, count_on, count_with, counts_of, is_before, is_client, is_clients, is_servers, is_behind, is_inside, is_left_out, passage_seen, passed_over, seen_by, seen_in, numbered_seen, seen_inside, sighting_of}
+use Rattle.seatmelon_reading.specs.Tapes.{NumberedPacket, taped_in}
 use Rattle.seatmelon_reading.specs.Times.{AreTimes, time_of}
 use Rattle.seatmelon_reading.specs.declared.notes.ChannelCount.{ChannelCount}
 use Rattle.seatmelon_reading.specs.declared.notes.Notes.{Notes}
 use Rattle.seatmelon_reading.specs.declared.notes.Sighting.{Sighting}
+use Rattle.seatmelon_reading.specs.declared.tape.Tape.{Tape}
 use Rattle.seatmelon_reading.proofs.Filters.{length_filter-most, length_filter-push}
 use Rattle.seatmelon_reading.proofs.Sorts.{passed_over-seen}
 
@@ -35,6 +38,13 @@ pub record SameNotes (old new : Notes) : Type 0 where
   pub channels : new.channels ≡ old.channels
   pub before : new.before ≡ old.before
   pub behind : new.behind ≡ old.behind
+  pub tape : new.tape ≡ old.tape
+
+-- the same packets are kept
+same_tape : (old new : Tape) (before more : List NumberedPacket) → new ≡ old → (old.is_kept ≡ true → taped_in old ≡ before) → before ≡ more
+    → new.is_kept ≡ true → taped_in new ≡ more
+same_tape old new datagrams more same held is kept =
+    ap taped_in same ∙ held (sym (ap (λ (t : Tape). t.is_kept) same) ∙ kept) ∙ is
 
 pub passed : (p : Parameters) (without : List ℕ) (records : List Captured) (r : Captured) (old new : Notes) → AreNotes p without records old
     → SameNotes old new → new.records ≡ suc (length records) → seen_in p without r ≡ None → new.passed ≡ passed_over p without (records ++ r ∷ [])
@@ -49,6 +59,7 @@ passed p without records r old new h same next none sorted timed =
       behind = same.behind ∙ h.behind ∙ ap (λ l. length (filter (is_behind p) l)) all;
       passed = sorted;
       times = timed;
+      taped = same_tape old.tape new.tape _ _ same.tape h.taped (ap (λ l. map numbered_seen (filter (is_inside p) l)) all);
     }
 
 -- ---- one with a packet
@@ -90,9 +101,9 @@ module _ (p : Parameters) (without : List ℕ) (records : List Captured) (s : Se
   not_behind_before : is_before p s ≡ true → is_behind p s ≡ false
   not_behind_before e = ap (λ b. not b && not (nat_le s.captured.number p.last_record)) e
 
-  pub before_window : (old new : Notes) → Grows old new → new.packets ≡ old.packets → new.channels ≡ old.channels
+  pub before_window : (old new : Notes) → Grows old new → new.packets ≡ old.packets → new.channels ≡ old.channels → new.tape ≡ old.tape
       → new.before ≡ old.before + 1 → new.behind ≡ old.behind → is_before p s ≡ true → AreNotes p without (records ++ s.captured ∷ []) new
-  before_window old new g packets channels before behind e =
+  before_window old new g packets channels tape before behind e =
       let inside = sym (without_it (is_inside p) (not_inside_before e)) in record {
         read = read_next old new g;
         packets = ap (λ v. v.items) packets ∙ packets_so_far old new g ∙ ap (map (sighting_of new.zero_is_no_time)) inside;
@@ -101,12 +112,13 @@ module _ (p : Parameters) (without : List ℕ) (records : List Captured) (s : Se
         behind = behind ∙ g.noted.behind ∙ ap length (sym (without_it (is_behind p) (not_behind_before e)));
         passed = g.passed;
         times = g.times;
+        taped = same_tape old.tape new.tape _ _ tape g.noted.taped (ap (map numbered_seen) inside);
       }
 
-  pub behind_window : (old new : Notes) → Grows old new → new.packets ≡ old.packets → new.channels ≡ old.channels
+  pub behind_window : (old new : Notes) → Grows old new → new.packets ≡ old.packets → new.channels ≡ old.channels → new.tape ≡ old.tape
       → new.before ≡ old.before → new.behind ≡ old.behind + 1 → is_before p s ≡ false → is_inside p s ≡ false → is_behind p s ≡ true
       → AreNotes p without (records ++ s.captured ∷ []) new
-  behind_window old new g packets channels before behind not_before not_inside e =
+  behind_window old new g packets channels tape before behind not_before not_inside e =
       let inside = sym (without_it (is_inside p) not_inside) in record {
         read = read_next old new g;
         packets = ap (λ v. v.items) packets ∙ packets_so_far old new g ∙ ap (map (sighting_of new.zero_is_no_time)) inside;
@@ -115,12 +127,21 @@ module _ (p : Parameters) (without : List ℕ) (records : List Captured) (s : Se
         behind = behind ∙ ap (λ n. n + 1) g.noted.behind ∙ sym (one_more (is_behind p) e);
         passed = g.passed;
         times = g.times;
+        taped = same_tape old.tape new.tape _ _ tape g.noted.taped (ap (map numbered_seen) inside);
       }
 
-  pub in_window : (old new : Notes) → Grows old new → new.packets.items ≡ old.packets.items ++ sighting_of new.zero_is_no_time s ∷ []
+  -- one packet more is kept
+  abbrev pub OneMore : Notes → Notes → Type 0
+  OneMore old new = (new.tape.is_kept ≡ old.tape.is_kept) × (new.tape.is_kept ≡ true → taped_in new.tape ≡ taped_in old.tape ++ numbered_seen s ∷ [])
+
+  more_taped : (old new : Notes) → Grows old new → OneMore old new → new.tape.is_kept ≡ true
+      → taped_in new.tape ≡ map numbered_seen (seen_inside p without records) ++ numbered_seen s ∷ []
+  more_taped old new g more kept = more.1 kept ∙ ap (λ l. l ++ numbered_seen s ∷ []) (g.noted.taped (sym more.0 ∙ kept))
+
+  pub in_window : (old new : Notes) → Grows old new → OneMore old new → new.packets.items ≡ old.packets.items ++ sighting_of new.zero_is_no_time s ∷ []
       → new.channels ≡ counts_of (seen_inside p without records ++ s ∷ []) → new.before ≡ old.before → new.behind ≡ old.behind
       → is_before p s ≡ false → is_inside p s ≡ true → is_behind p s ≡ false → AreNotes p without (records ++ s.captured ∷ []) new
-  in_window old new g packets channels before behind not_before e not_behind =
+  in_window old new g tape packets channels before behind not_before e not_behind =
       let inside = sym (filtered (is_inside p) true e) in record {
         read = read_next old new g;
         packets = packets ∙ ap (λ l. l ++ sighting_of new.zero_is_no_time s ∷ []) (packets_so_far old new g)
@@ -130,6 +151,7 @@ module _ (p : Parameters) (without : List ℕ) (records : List Captured) (s : Se
         behind = behind ∙ g.noted.behind ∙ ap length (sym (without_it (is_behind p) not_behind));
         passed = g.passed;
         times = g.times;
+        taped = λ kept. more_taped old new g tape kept ∙ sym (map_push numbered_seen (seen_inside p without records) s) ∙ ap (map numbered_seen) inside;
       }
 
 -- ---- where it crossed
@@ -258,28 +280,28 @@ module _ (p : Parameters) (without : List ℕ) (records : List Captured) (s : Se
   one_counted_more : (n : ℕ) (test : Seen → Bool) → n ≡ length (filter test (all_seen p without records)) → min (n + 1) 18446744073709551615 ≡ n + 1
   one_counted_more n test is = (let most = filtered_bound p without records test in saturated n (length records) (omega (arith, is, most)) (omega (arith, next, few)))
 
-  pub noted_before : new.packets ≡ old.packets → new.channels ≡ old.channels → new.before ≡ min (old.before + 1) 18446744073709551615 → new.behind ≡ old.behind
+  pub noted_before : new.tape ≡ old.tape → new.packets ≡ old.packets → new.channels ≡ old.channels → new.before ≡ min (old.before + 1) 18446744073709551615 → new.behind ≡ old.behind
       → new.records < p.first_record → AreNotes p without (records ++ s.captured ∷ []) new
-  noted_before packets channels before behind stands =
-      before_window p without records s some old new grows packets channels (before ∙ one_counted_more old.before (is_before p) noted.before) behind
+  noted_before tape packets channels before behind stands =
+      before_window p without records s some old new grows packets channels tape (before ∙ one_counted_more old.before (is_before p) noted.before) behind
       (grind (arith, nat_tests, numbered, stands))
 
-  pub noted_behind : new.packets ≡ old.packets → new.channels ≡ old.channels → new.before ≡ old.before → new.behind ≡ min (old.behind + 1) 18446744073709551615
+  pub noted_behind : new.tape ≡ old.tape → new.packets ≡ old.packets → new.channels ≡ old.channels → new.before ≡ old.before → new.behind ≡ min (old.behind + 1) 18446744073709551615
       → p.first_record ≤ new.records → p.last_record < new.records → AreNotes p without (records ++ s.captured ∷ []) new
-  noted_behind packets channels before behind first last =
+  noted_behind tape packets channels before behind first last =
       let not_before : is_before p s ≡ false = grind (arith, nat_tests, numbered, first) in
       let not_inside : nat_le s.captured.number p.last_record ≡ false = grind (arith, nat_tests, numbered, last) in
-      behind_window p without records s some old new grows packets channels before (behind ∙ one_counted_more old.behind (is_behind p) noted.behind) not_before
+      behind_window p without records s some old new grows packets channels tape before (behind ∙ one_counted_more old.behind (is_behind p) noted.behind) not_before
       (ap (λ b. not (is_before p s) && b) not_inside ∙ ap (λ b. not b && false) not_before)
       (ap (λ b. not (is_before p s) && not b) not_inside ∙ ap (λ b. not b && true) not_before)
 
-  pub noted_inside : new.packets.items ≡ old.packets.items ++ sighting_of new.zero_is_no_time s ∷ [] → new.channels ≡ counts_of (seen_inside p without records ++ s ∷ [])
+  pub noted_inside : OneMore p without records s some old new → new.packets.items ≡ old.packets.items ++ sighting_of new.zero_is_no_time s ∷ [] → new.channels ≡ counts_of (seen_inside p without records ++ s ∷ [])
       → new.before ≡ old.before → new.behind ≡ old.behind → p.first_record ≤ new.records → new.records ≤ p.last_record
       → AreNotes p without (records ++ s.captured ∷ []) new
-  noted_inside packets channels before behind first last =
+  noted_inside tape packets channels before behind first last =
       let not_before : is_before p s ≡ false = grind (arith, nat_tests, numbered, first) in
       let inside : nat_le s.captured.number p.last_record ≡ true = grind (arith, nat_tests, numbered, last) in
-      in_window p without records s some old new grows packets channels before behind not_before
+      in_window p without records s some old new grows tape packets channels before behind not_before
       (ap (λ b. not (is_before p s) && b) inside ∙ ap (λ b. not b && true) not_before)
       (ap (λ b. not (is_before p s) && not b) inside ∙ ap (λ b. not b && false) not_before)
 
@@ -316,3 +338,17 @@ counted seen s channels place count d new passage is few crossed within channel 
     let servers : count.server ≤ length seen = subst (λ (n : ChannelCount). n.server ≤ length seen) (sym same) bounds.1 in
     ap (λ l. set l place new) is ∙ ap (set (counts_of seen) place) (more (omega arith) (omega arith) ∙ ap (λ (x : Passage). count_with count x.side) crossed)
     ∙ counts_within seen s place count d within (ap (λ (x : Passage). x.channel) (sym crossed) ∙ channel) here
+
+-- the packet that was seen is that of its record
+abbrev some_seen_of : Seen → Option Seen
+some_seen_of s = Some s
+
+found_by : (r : Captured) (s : Seen) (left_out : Bool) (found : Result (Option Packet) Fault) → cond left_out None (seen_by r found) ≡ some_seen_of s
+    → packet_found found ≡ Some s.packet
+found_by r s true found e = absurd cc
+found_by r s false (Err fault) e = absurd cc
+found_by r s false (Ok None) e = absurd cc
+found_by r s false (Ok (Some packet)) e = (let same : packet ≡ s.packet = cc in ap (λ (x : Packet). Some x) same)
+
+pub packet-seen : (p : Parameters) (without : List ℕ) (s : Seen) → seen_in p without s.captured ≡ Some s → packet_found (packet_in p.channels s.captured.bytes) ≡ Some s.packet
+packet-seen p without s e = found_by s.captured s (is_left_out without s.captured.number) (packet_in p.channels s.captured.bytes) e

@@ -6,6 +6,7 @@ pub mod Passing
 pub mod Reading
 pub mod Silences
 pub mod Summing
+pub mod Tapes
 pub mod Times
 pub mod Told
 pub mod Window

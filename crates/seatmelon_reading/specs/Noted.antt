@@ -11,6 +11,7 @@ use Rattle.rasta_check.specs.declared.passage.Passage.{Passage}
 use Rattle.rasta_check.specs.Capture.Passages.{passage_of}
 use Rattle.seatmelon_reading.specs.declared.notes.ChannelCount.{ChannelCount}
 use Rattle.seatmelon_reading.specs.PassedOver.{is_for, why_by}
+use Rattle.seatmelon_reading.specs.Tapes.{NumberedPacket, taped_in}
 use Rattle.seatmelon_reading.specs.Times.{AreTimes, time_of}
 use Rattle.seatmelon_reading.specs.declared.notes.Notes.{Notes}
 use Rattle.seatmelon_reading.specs.declared.notes.Sighting.{Sighting}
@@ -102,9 +103,13 @@ passed_over p without records = record {
   unreadable = count_for p without records Unreadable;
 }
 
+abbrev pub numbered_seen : Seen → NumberedPacket
+numbered_seen s = record { number = s.captured.number; packet = s.packet }
+
 -- what is noted but for the packets in the window
 pub record SameOutside (old new : Notes) : Type 0 where
   pub untimed : new.zero_is_no_time ≡ old.zero_is_no_time
+  pub tape : new.tape ≡ old.tape
   pub read : new.records ≡ old.records
   pub before : new.before ≡ old.before
   pub behind : new.behind ≡ old.behind
@@ -120,3 +125,4 @@ pub record AreNotes (p : Parameters) (without : List ℕ) (records : List Captur
   pub behind : n.behind ≡ length (filter (is_behind p) (all_seen p without records))
   pub passed : n.passed ≡ passed_over p without records
   pub times : AreTimes n.zero_is_no_time records n.times
+  pub taped : n.tape.is_kept ≡ true → taped_in n.tape ≡ map numbered_seen (seen_inside p without records)

@@ -1,7 +1,8 @@
-//! Why a record holds no packet of the recorded channels.
-ghost use Rattle.std.specs.Prelude.{◌≡◌, ◌+◌, ◌≤◌, length, Some, None};
+//! The packet of the recorded channels that a record holds, or why it holds none.
+ghost use Rattle.std.specs.Prelude.{◌≡◌, ◌+◌, ◌≤◌, length, option_map, Some, None};
 ghost use Rattle.rasta_pcap.specs.Captured.{Captured, numbered};
-ghost use Rattle.rasta_udp.specs.Frame.{fields_of, header_length_of, is_tagged, number_at, packet_in};
+ghost use Rattle.rasta_udp.specs.Frame.{fields_of, header_length_of, is_tagged, number_at, packet_in, packet_of};
+ghost use Rattle.rasta_check.specs.Capture.Reading.{packet_found};
 ghost use Rattle.seatmelon_reading.specs.Noted.{seen_in, why_passed};
 ghost use Rattle.seatmelon_reading.specs.PassedOver.{has_outer_tag, is_behind_tag, is_behind_tags, is_of_channels, is_udp, untagged, why_not};
 
@@ -9,7 +10,7 @@ use crate::passed_over::WhyPassed;
 use byteorder::{BigEndian, ByteOrder};
 use rasta_pcap::Record;
 use rasta_pdu::Params;
-use rasta_udp::{Channel, datagram};
+use rasta_udp::{Channel, Datagram, datagram};
 
 // Type fields of Ethernet II: a packet of IPv4, a tag of IEEE 802.1Q, and one of IEEE 802.1ad.
 const IPV4: u16 = 0x0800;
@@ -34,6 +35,13 @@ const TAG: usize = 4;
 const ETHERNET_HEADER: usize = 14;
 
 const LEAST_IPV4_HEADER: usize = 20;
+
+/// The packet of a record, if it holds one of the recorded channels.
+pub fn packet<'r>(params: &Params, record: &Record<'r>) -> Option<Datagram<'r>>
+    ensures { option_map packet_of result ≡ packet_found (packet_in params.now.channels «record».now.bytes.now) }
+{
+    datagram(record, params.channel()).ok()?
+}
 
 #[tactic(auto, unfolding(rasta_udp::specs::Frame::number_at))]
 fn u16_at(bytes: &[u8], place: usize) -> u16

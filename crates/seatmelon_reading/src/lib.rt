@@ -11,6 +11,7 @@ mod passed_over;
 mod reading;
 mod silence;
 mod summed;
+mod tape;
 mod times;
 mod window;
 
@@ -20,5 +21,6 @@ pub use notes::{ChannelCount, Notes, Sighting};
 pub use passed_over::PassedOver;
 pub use reading::{Reading, read_capture};
 pub use silence::{Silence, count_untimed, longest_silence};
+pub use tape::{Tape, Taped};
 pub use times::{Noticed, TimeNotes};
 pub use window::{Window, window_in};

@@ -9,6 +9,7 @@ ghost use Rattle.seatmelon_reading.specs.Noted.{AreNotes, SameOutside, Seen, cou
 
 use crate::frames::why_passed;
 use crate::passed_over::{PassedOver, WhyPassed};
+use crate::tape::Tape;
 use crate::times::{TimeNotes, time_told};
 use crate::window::{Standing, standing_of};
 use rasta_check::Passage;
@@ -61,6 +62,9 @@ pub struct Notes {
 
     /// Whether a time of 0 is none, as in a pcapng file, whose packets may lack one.
     pub zero_is_no_time: bool,
+
+    /// The packets with their datagrams, if they are kept.
+    pub tape: Tape,
 }
 
 impl ChannelCount {
@@ -103,7 +107,7 @@ fn count(channels: &mut [ChannelCount; 4], passage: Passage)
 
 impl Notes {
     /// Of no record.
-    pub fn new(alloc: Global, zero_is_no_time: bool) -> Notes
+    pub fn new(alloc: Global, zero_is_no_time: bool, is_taped: bool) -> Notes
         ensures noted { (p : Parameters) (without : List ℕ) → AreNotes p without [] result }
         ensures untimed { result.zero_is_no_time ≡ zero_is_no_time }
     {
@@ -120,6 +124,7 @@ impl Notes {
             passed: PassedOver::NONE,
             times: TimeNotes::NONE,
             zero_is_no_time,
+            tape: Tape::new(alloc, is_taped),
         }
     }
 
@@ -150,18 +155,21 @@ impl Notes {
     // Takes in a record, which was captured at this time, if it has one, and where its packet crossed.
     fn add(
         &mut self,
+        alloc: Global,
         params: &Params,
-        number: u32,
+        record: &Record<'_>,
         time: Option<CaptureTime>,
         passage: Passage,
     ) -> Result<(), Fault>
         ensures noted { OnOk result ((without : List ℕ) (records : List Captured) (s : Seen) → AreNotes params.now without records self.old
-            → s.captured.number ≡ number → number ≡ suc (length records) → time ≡ time_of self.old.zero_is_no_time s.captured
+            → numbered s.captured ≡ («record».now.number, «record».now.bytes.now) → s.captured.number ≡ suc (length records)
+            → time ≡ time_of self.old.zero_is_no_time s.captured
             → seen_in params.now without s.captured ≡ Some s → passage ≡ passage_of s.packet
             → AreNotes params.now without (records ++ s.captured ∷ []) self.new) }
         ensures kept { self.new.zero_is_no_time ≡ self.old.zero_is_no_time }
         ensures err { IfErr result (λ f. f ≡ no_memory) }
     {
+        let number = record.number;
         self.records = number;
         self.times.add(number, time);
         match standing_of(params, number) {
@@ -175,6 +183,7 @@ impl Notes {
                     sender: passage.side,
                 };
                 self.add_inside(sighting, passage)?;
+                self.tape.add(alloc, params, record)?;
             }
         }
         Ok(())
@@ -184,6 +193,7 @@ impl Notes {
     /// channels.
     pub fn note(
         &mut self,
+        alloc: Global,
         params: &Params,
         without: &[u32],
         record: &Record<'_>,
@@ -196,12 +206,11 @@ impl Notes {
         ensures kept { self.new.zero_is_no_time ≡ self.old.zero_is_no_time }
         ensures err { IfErr result (λ f. f ≡ no_memory) }
     {
-        let number = record.number;
         let time = time_told(self.zero_is_no_time, time);
         match passage {
-            Some(passage) => self.add(params, number, time, passage),
+            Some(passage) => self.add(alloc, params, record, time, passage),
             None => {
-                self.pass(number, time, why_passed(params, without, record));
+                self.pass(record.number, time, why_passed(params, without, record));
                 Ok(())
             }
         }

@@ -11,13 +11,14 @@ ghost use Rattle.rasta_check.specs.Capture.Reading.{nothing_crossed, packet_foun
 ghost use Rattle.seatmelon_reading.specs.Noted.{AreNotes, passage_seen, seen_in};
 
 use crate::capture_refusal::CaptureRefusal;
+use crate::frames::packet;
 use crate::notes::{Notes, Sighting};
 use crate::times::time_told;
 use crate::window::{Standing, standing_of};
 use rasta_check::{Passage, StoreBuilder};
 use rasta_pcap::{CaptureTime, Fault, Record};
 use rasta_pdu::Params;
-use rasta_udp::{Datagram, datagram};
+use rasta_udp::Datagram;
 use std::alloc::Global;
 
 /// A reading on its way.
@@ -39,13 +40,6 @@ fn is_failure(fault: Fault) -> bool
     ensures { IsTrue result ↔ (fault.number ≡ 1) ⊎ (fault.number ≡ 2) }
 {
     matches!(fault.number, Fault::NO_MEMORY | Fault::READ_FAILED)
-}
-
-// The packet of a record, if it holds one of the recorded channels.
-fn packet<'r>(params: &Params, record: &Record<'r>) -> Option<Datagram<'r>>
-    ensures { option_map packet_of result ≡ packet_found (packet_in params.now.channels «record».now.bytes.now) }
-{
-    datagram(record, params.channel()).ok()?
 }
 
 // Where a packet crossed.
@@ -76,6 +70,7 @@ impl<'a> Pass<'a> {
         params: &Params,
         without: &'a [u32],
         zero_is_no_time: bool,
+        is_taped: bool,
     ) -> Pass<'a>
         ensures params { result.params ≡ params.now }
         ensures without { result.without.now ≡ without.now }
@@ -88,7 +83,7 @@ impl<'a> Pass<'a> {
             without,
             builder: StoreBuilder::new(alloc, *params),
             refusal: None,
-            notes: Notes::new(alloc, zero_is_no_time),
+            notes: Notes::new(alloc, zero_is_no_time, is_taped),
         }
     }
 
@@ -241,7 +236,7 @@ impl<'a> Pass<'a> {
     {
         let passage = self.pass_next(alloc, record, time)?;
         self.notes
-            .note(&self.params, self.without, record, time, passage)
+            .note(alloc, &self.params, self.without, record, time, passage)
     }
 
     /// Takes in the fault that ended the reading, with what was read of its record.

@@ -194,11 +194,13 @@ where
 /// Reads a capture once, from its first byte to its last, through a buffer. A pcapng file is read as a classic capture of
 /// its packets.
 ///
-/// Refused by [`Fault::NO_MEMORY`] and [`Fault::READ_FAILED`] alone: a fault of the capture is part of what is read.
+/// The packets are kept if they are to be taped. Refused by [`Fault::NO_MEMORY`] and [`Fault::READ_FAILED`]
+/// alone: a fault of the capture is part of what is read.
 pub fn read_capture<R: Source>(
     alloc: Global,
     params: &Params,
     without: &[u32],
+    is_taped: bool,
     reader: &mut R,
 ) -> Result<Reading, Fault>
     // Of a file that is known it is told what crossed by its capture or the first fault of that, what is noted of its
@@ -208,7 +210,8 @@ pub fn read_capture<R: Source>(
     ensures err { IfErr result (λ f. (f ≡ no_memory) ⊎ (f ≡ read_failed)) }
 {
     let capture = Capture::open(alloc, Keeping::new(Summed::new(reader)))?;
-    let mut pass = Pass::new(alloc, params, without, capture.format().is_pcapng());
+    let is_pcapng = capture.format().is_pcapng();
+    let mut pass = Pass::new(alloc, params, without, is_pcapng, is_taped);
     let facts = pass_file(alloc, capture, &mut pass)?;
     let FileFacts {
         digest,

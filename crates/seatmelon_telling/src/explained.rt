@@ -35,20 +35,25 @@ const FROM_OPENING: &str = "What is judged begins before the opening of the conn
 const FROM_LATER_OPENING: &str =
     "What is judged begins before the opening of the connection, and no copy of an earlier packet comes after it.";
 
-/// The premises of 'explained', but for where what is judged begins. Where there is no safety code, anybody can
-/// have sent a packet.
-pub fn premises(explained: &Explained<'_>) -> [&'static str; 4] {
-    let strangers = if explained.has_code {
+/// The premises of 'explained', but for what reached the tap and for where what is judged begins. Where there is no safety
+/// code, anybody can have sent a packet.
+pub fn further_premises(has_code: bool) -> [&'static str; 3] {
+    let strangers = if has_code {
         NO_VALID_STRANGERS
     } else {
         NO_STRANGERS
     };
     [
-        REACHED,
         strangers,
         "The parameters are right.",
         "For 'surely taken': both ends kept the rules.",
     ]
+}
+
+/// The premises of 'explained', but for where what is judged begins.
+pub fn premises(explained: &Explained<'_>) -> [&'static str; 4] {
+    let [strangers, parameters, rules] = further_premises(explained.has_code);
+    [REACHED, strangers, parameters, rules]
 }
 
 /// The premise on where what is judged begins, but for the end of its sentence.
@@ -94,15 +99,15 @@ fn write_quiet_end<W: Sink>(writer: &mut W, side: Side, end: &QuietEnd) -> Resul
     write_words(writer, "\n")
 }
 
-// Writes a premise as a line.
-fn write_premise<W: Sink>(writer: &mut W, words: &str) -> Result<(), Fault>
+/// Writes a premise as a line.
+pub fn write_premise<W: Sink>(writer: &mut W, words: &str) -> Result<(), Fault>
     ensures err { IfErr result (λ f. f ≡ write_failed) }
 {
     write_parts(writer, &parts!["  ", words, "\n"])
 }
 
-// Writes where what is judged begins.
-fn write_start<W: Sink>(writer: &mut W, start: &Start) -> Result<(), Fault>
+/// Writes where what is judged begins.
+pub fn write_start<W: Sink>(writer: &mut W, start: &Start) -> Result<(), Fault>
     ensures err { IfErr result (λ f. f ≡ write_failed) }
 {
     write_words(writer, "  ")?;
@@ -189,7 +194,14 @@ pub fn write_explained<W: Sink>(
     write_judged(writer, account)?;
     write_meaning(writer, explained)?;
     match extent.messages {
-        Some(selection) => write_messages(writer, account, explained, selection, extent.is_whole),
+        Some(selection) => write_messages(
+            writer,
+            account,
+            &explained.client,
+            &explained.server,
+            selection,
+            extent.is_whole,
+        ),
         None => Ok(()),
     }
 }

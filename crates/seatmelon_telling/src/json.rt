@@ -7,6 +7,7 @@ use crate::json_notes::{write_passed_over, write_times};
 use crate::json_params::{write_offers, write_params};
 use crate::json_places::write_number_if;
 use crate::json_refusal::write_refusal;
+use crate::json_supposed::{verdict_with, write_supposed};
 use crate::page::PROGRAM;
 use rasta_pcap::{Fault, Sink};
 use seatmelon_account::{Account, File, Verdict};
@@ -177,8 +178,10 @@ fn write_verdict<W: Sink>(writer: &mut W, account: &Account<'_>) -> Result<(), F
     match &account.verdict {
         Verdict::NoPackets => write_words(writer, ",\"verdict\":\"no_packets\""),
         Verdict::Refused(refusal) => {
-            write_words(writer, ",\"verdict\":\"refused\"")?;
-            write_refusal(writer, account, refusal)
+            let verdict = verdict_with(account.hypothesis.as_ref());
+            write_parts(writer, &parts![",\"verdict\":\"", verdict, "\""])?;
+            write_refusal(writer, account, refusal)?;
+            write_supposed(writer, account)
         }
         Verdict::Explained(explained) => {
             write_words(writer, ",\"verdict\":\"explained\"")?;

@@ -11,8 +11,8 @@ use seatmelon_reading::Sighting;
 use seatmelon_text::json::{quotes_of, write_bytes, write_long, write_sentence};
 use seatmelon_text::{Part, Room, parts, put_parts, write_parts, write_words};
 
-// Writes the premise on where what is judged begins.
-fn write_start_premise<W: Sink>(writer: &mut W, start: &Start) -> Result<(), Fault>
+/// Writes the premise on where what is judged begins, as the last of a list.
+pub fn write_start_premise<W: Sink>(writer: &mut W, start: &Start) -> Result<(), Fault>
     ensures err { IfErr result (λ f. f ≡ write_failed) }
 {
     let end = match start {
@@ -170,8 +170,8 @@ fn write_not_shown<W: Sink>(writer: &mut W, numbers: Option<(u64, u64)>) -> Resu
     write_words(writer, "}")
 }
 
-// Writes the messages that an end sent.
-fn write_direction<W: Sink>(
+/// Writes the messages that an end sent.
+pub fn write_direction<W: Sink>(
     writer: &mut W,
     packets: &[Sighting],
     direction: &Direction<'_>,

@@ -13,6 +13,7 @@ mod json_packet;
 mod json_params;
 mod json_places;
 mod json_refusal;
+mod json_supposed;
 mod layout;
 mod messages;
 mod notes;
@@ -20,6 +21,7 @@ mod packet_text;
 mod page;
 mod refusal;
 mod rule;
+mod supposed;
 mod text;
 mod words;
 

@@ -4,7 +4,7 @@ ghost use Rattle.rasta_pcap.specs.Fault.{write_failed};
 
 use crate::page::place_of;
 use rasta_pcap::{CaptureTime, Fault, Side, Sink};
-use seatmelon_account::{Account, Direction, Explained, Message, Selection};
+use seatmelon_account::{Account, Direction, Message, Selection};
 use seatmelon_reading::Sighting;
 use seatmelon_text::{Part, Room, parts, put_parts, width, write_parts, write_words};
 
@@ -291,7 +291,8 @@ fn write_heading<W: Sink>(writer: &mut W, scene: &Scene<'_>) -> Result<(), Fault
 pub fn write_messages<W: Sink>(
     writer: &mut W,
     account: &Account<'_>,
-    explained: &Explained<'_>,
+    client: &Direction<'_>,
+    server: &Direction<'_>,
     selection: Selection,
     is_whole: bool,
 ) -> Result<(), Fault>
@@ -305,8 +306,8 @@ pub fn write_messages<W: Sink>(
         is_whole,
     };
     write_heading(writer, &scene)?;
-    let is_any_of_client = write_direction(writer, &scene, &explained.client)?;
-    let is_any_of_server = write_direction(writer, &scene, &explained.server)?;
+    let is_any_of_client = write_direction(writer, &scene, client)?;
+    let is_any_of_server = write_direction(writer, &scene, server)?;
     if is_any_of_client || is_any_of_server {
         Ok(())
     } else {

@@ -10,11 +10,12 @@ use crate::layout::write_payload_due;
 use crate::packet_text::{write_codes, write_datagram, write_differences, write_pdu};
 use crate::page::{write_judged, write_place, write_sighting, write_without};
 use crate::rule::write_rule;
+use crate::supposed::{write_supposed, write_supposed_messages};
 use crate::words::{Hint, fits_none, hint_of, meaning_in, meaning_of};
 use rasta_pcap::{CaptureTime, Fault, Sink};
 use seatmelon_account::{
-    Account, Crossed, FirstCopy, NamedPacket, Refusal, RefusedEntry, RefusedPacket, Subject,
-    Trouble,
+    Account, Crossed, Extent, FirstCopy, NamedPacket, Refusal, RefusedEntry, RefusedPacket,
+    Subject, Trouble,
 };
 use seatmelon_packets::Fits;
 use seatmelon_pcapng::Format;
@@ -363,11 +364,14 @@ pub fn write_refusal<W: Sink>(
     writer: &mut W,
     account: &Account<'_>,
     refusal: &Refusal<'_>,
+    extent: &Extent,
 ) -> Result<(), Fault>
     ensures err { IfErr result (λ f. f ≡ write_failed) }
 {
     write_fault(writer, account, refusal.fault)?;
     write_subject(writer, account, refusal)?;
     write_hint(writer, hint_of(account, refusal))?;
-    write_judged(writer, account)
+    write_supposed(writer, account)?;
+    write_judged(writer, account)?;
+    write_supposed_messages(writer, account, extent)
 }

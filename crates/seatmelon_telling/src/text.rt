@@ -18,7 +18,7 @@ pub fn write_text<W: Sink>(
 {
     match &account.verdict {
         Verdict::NoPackets => write_no_packets(writer, account),
-        Verdict::Refused(refusal) => write_refusal(writer, account, refusal),
+        Verdict::Refused(refusal) => write_refusal(writer, account, refusal, extent),
         Verdict::Explained(explained) => write_explained(writer, account, explained, extent),
     }
 }

@@ -132,6 +132,18 @@ fn without<'a>(alloc: Global) -> Arg<'a> {
         .value_parser(ValueParser::unsigned(1, 4_294_967_295))
 }
 
+// The option that supposes PDUs that the tap missed.
+fn suppose<'a>(alloc: Global) -> Result<Arg<'a>, AllocError> {
+    Arg::new(alloc, "suppose")
+        .long("suppose")
+        .value_name("N")
+        .help(
+            "Where PDUs are missing (28), looks for up to N of them, at most 16, with which the rules can explain the rest",
+        )
+        .value_parser(ValueParser::unsigned(1, 16))
+        .conflicts_with("certificate")
+}
+
 // The option that asks for data in place of words.
 pub(crate) fn json<'a>(alloc: Global) -> Arg<'a> {
     Arg::new(alloc, "json")
@@ -205,6 +217,7 @@ fn explain<'a>(alloc: Global) -> Result<Command<'a>, AllocError> {
         .arg(parameters)?
         .arg(certificate)?
         .arg(without(alloc))?
+        .arg(suppose(alloc)?)?
         .arg(summary(alloc)?)?
         .arg(messages(alloc)?)?
         .arg(not_shown(alloc)?)?
@@ -321,6 +334,7 @@ fn explaining_in<'a>(
         parameters,
         certificate: matches.get_str("certificate"),
         without: left_out(alloc, matches)?,
+        suppose: matches.get_one("suppose"),
         form: form_in(alloc, matches)?,
     })))
 }

@@ -227,6 +227,7 @@ fn explain(
         parameters: "day.toml",
         certificate: None,
         without,
+        suppose: None,
         form: match job {
             Job::Json => Form::Json,
             _ => Form::Text(Extent::ALL),

@@ -17,7 +17,7 @@ returns-clause-read g c =
     let opened : IsOpened remaining noted_behind c.new-2.result c.in_ok-capture.capture =
     record { none = none; left = c.in_ok-capture.ensures.left; noted = c.in_ok-capture.ensures.noted } in
     let facts = c.in_ok-facts.ensures in
-    let told = c.new-pass.ensures.untimed ∙ c.is_pcapng.ensures ∙ ap (λ (f : Format). is_of_pcapng f) c.format.ensures in
+    let told = c.new-pass.ensures.untimed ∙ c.is_pcapng-is_pcapng.ensures ∙ ap (λ (f : Format). is_of_pcapng f) c.format.ensures in
     reading_made c.args.params.now c.args.without.now (g.R.Source.remaining c.args.reader.now) (remaining c.new-2.result) c.new-pass.result c.pass_file.new.pass c.finish.result
     c.in_ok-facts.facts.digest c.in_ok-facts.facts.header c.in_ok-facts.facts.format is
     c.new-pass.ensures.params c.new-pass.ensures.without c.new-pass.ensures.standing c.new-pass.ensures.noted c.finish.ensures

@@ -9,8 +9,7 @@ pub returns-in-Some-clause-noted : goal.returns-in-Some-clause-noted
 returns-in-Some-clause-noted c = IfOk-weaker c.add.result _ _
     (λ _ noted records r before is next timed crossed.
     let seen = some_seen c.args.params.now c.args.without.now r c.in-Some.passage (sym crossed ∙ c.in-Some.is) in
-    let numbered = ap (λ (n : Numbered). n.0) is in
-    noted c.args.without.now records (record { captured = r; packet = seen.packet }) before numbered (sym numbered ∙ next)
+    noted c.args.without.now records (record { captured = r; packet = seen.packet }) before is next
     (c.time_told-time.ensures ∙ ap (time_told c.args.self.now.zero_is_no_time) timed) seen.is seen.crossed)
     c.add.ensures.noted
 

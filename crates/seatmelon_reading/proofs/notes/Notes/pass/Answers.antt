@@ -5,6 +5,6 @@ use Rattle.seatmelon_reading.proofs.notes.Notes.pass.Goals as goal
 
 pub returns-clause-noted : goal.returns-clause-noted
 returns-clause-noted c p without records r noted numbered next timed none why =
-    passed p without records r c.args.self.now _ noted (record { untimed = refl; packets = refl; channels = refl; before = refl; behind = refl }) next none
+    passed p without records r c.args.self.now _ noted (record { untimed = refl; packets = refl; channels = refl; before = refl; behind = refl; tape = refl }) next none
     (passed_next p without records r c.args.self.now.passed c.with-self.result c.args.why c.args.number noted.passed (omega (arith, next)) c.ranges.number.fits why c.with-self.ensures)
     (c.add.ensures c.args.self.now.zero_is_no_time records r noted.times (omega (arith, next, c.ranges.number.fits)) numbered timed)

@@ -1,0 +1,82 @@
+//! The packets of the connection with their datagrams, which are kept on demand.
+ghost use Rattle.std.specs.Prelude.{◌≡◌, ◌∷◌, ◌++◌, [], true, OnOk, IfErr};
+ghost use Rattle.rasta_pcap.specs.Fault.{no_memory};
+ghost use Rattle.rasta_udp.specs.Frame.{packet_in, packet_of};
+ghost use Rattle.rasta_check.specs.Capture.Reading.{packet_found};
+ghost use Rattle.seatmelon_reading.specs.Tapes.{found_in, numbered_with, taped_in};
+
+use crate::frames::packet;
+use rasta_pcap::{Fault, Record, Side};
+use rasta_pdu::Params;
+use rasta_udp::Datagram;
+use std::alloc::{AllocError, Global};
+
+/// A packet of the connection.
+#[derive(Drop)]
+pub struct Taped {
+    /// The number of its record, from 1.
+    pub record: u32,
+
+    /// The number of its channel, from 1.
+    pub channel: u8,
+
+    pub sender: Side,
+    pub datagram: Vec<u8>,
+}
+
+/// The packets of the connection in the window, by place; none where they aren't kept.
+#[derive(Drop)]
+pub struct Tape {
+    pub is_kept: bool,
+    pub packets: Vec<Taped>,
+}
+
+impl Tape {
+    /// Of no packet.
+    pub fn new(alloc: Global, is_kept: bool) -> Tape
+        ensures kept { result.is_kept ≡ is_kept }
+        ensures none { taped_in result ≡ [] }
+    {
+        Tape {
+            is_kept,
+            packets: Vec::new(alloc),
+        }
+    }
+
+    // Takes in the packet of the record of this number.
+    fn push(&mut self, alloc: Global, number: u32, found: &Datagram<'_>) -> Result<(), AllocError>
+        ensures kept { self.new.is_kept ≡ self.old.is_kept }
+        ensures added { OnOk result (taped_in self.new ≡ taped_in self.old ++ numbered_with number (packet_of found.now) ∷ []) }
+    {
+        let mut datagram = Vec::new(alloc);
+        datagram.extend_from_slice(found.payload)?;
+        let taped = Taped {
+            record: number,
+            channel: found.channel,
+            sender: found.side,
+            datagram,
+        };
+        match self.packets.push(taped) {
+            Ok(()) => Ok(()),
+            Err(error) => Err(AllocError::from(error)),
+        }
+    }
+
+    /// Takes in the packet of a record, if packets are kept.
+    ///
+    /// Refused by [`Fault::NO_MEMORY`] alone.
+    pub fn add(&mut self, alloc: Global, params: &Params, record: &Record<'_>) -> Result<(), Fault>
+        ensures kept { self.new.is_kept ≡ self.old.is_kept }
+        ensures added { OnOk result (self.new.is_kept ≡ true → taped_in self.new
+            ≡ taped_in self.old ++ found_in «record».now.number (packet_found (packet_in params.now.channels «record».now.bytes.now))) }
+        ensures err { IfErr result (λ f. f ≡ no_memory) }
+    {
+        if !self.is_kept {
+            return Ok(());
+        }
+        match packet(params, record) {
+            Some(found) => Ok(self.push(alloc, record.number, &found)?),
+            None => Ok(()),
+        }
+    }
+}

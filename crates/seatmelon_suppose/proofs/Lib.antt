@@ -1,0 +1,4 @@
+pub mod Crossed
+pub mod Judging
+pub mod Listing
+pub mod Under

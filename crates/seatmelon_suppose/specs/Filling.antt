@@ -1,0 +1,57 @@
+-- What explains a capture together with PDUs that the tap is supposed to have missed.
+use Rattle.std.specs.Prelude.{◌≡◌, ℕ, List, [], ◌++◌, map, filter_map, slice_get, Option, None, Some, Ok}
+use Rattle.std.specs.List.{cons_option}
+use Rattle.std.specs.Option.{option_and_then}
+use Rattle.rasta_pdu.specs.Params.{Parameters}
+use Rattle.rasta_check.specs.Capture.Reading.{Crossing, nothing_crossed}
+use Rattle.rasta_check.specs.Verdict.Headline.{Headline}
+use Rattle.rasta_check.specs.Verdict.Listed.{ListedMessage, listed_of}
+use Rattle.rasta_check.specs.Verdict.Report as reports
+use Rattle.rasta_check.specs.declared.report.Taken.{Taken}
+use Rattle.seatmelon_reading.specs.Tapes.{NumberedPacket}
+use Rattle.seatmelon_suppose.specs.Mending.{after_packets, mended, origins_from}
+use Rattle.seatmelon_suppose.specs.declared.filling.Filling.{Filling}
+use Rattle.seatmelon_suppose.specs.declared.filling.Judged.{Judged}
+use Rattle.seatmelon_suppose.specs.declared.filling.Listed.{Listed}
+use Rattle.seatmelon_suppose.specs.declared.filling.Lists.{Lists}
+
+-- where the packet at a place among all that crossed was captured; none of a supposed PDU
+abbrev pub origin_at : List (Option ℕ) → ℕ → Option ℕ
+origin_at origins place = option_and_then (λ (o : Option ℕ). o) (slice_get origins place)
+
+-- where the data of a message that is listed was captured
+abbrev pub data_captured : List (Option ℕ) → ListedMessage → Option ℕ
+data_captured origins l = origin_at origins l.data_place
+
+-- the same of all messages of captured data
+abbrev pub all_captured : List (Option ℕ) → List ListedMessage → List ℕ
+all_captured origins listed = filter_map (data_captured origins) listed
+
+abbrev pub data_of : Listed → ℕ
+data_of l = l.data
+
+-- a message that was surely taken is added, if its data was captured
+pub record Adds (origins : List (Option ℕ)) (t : Taken) (old new : List Listed) : Type 0 where
+  pub added : map data_of new ≡ map data_of old ++ cons_option (data_captured origins (listed_of t)) []
+
+-- the messages of captured data that the checker's report on what crossed lists; some run sends these packets, and in every run that does
+-- each of these messages had been handed up
+pub record AreLists (k : Crossing) (origins : List (Option ℕ)) (l : Lists) : Type 0 where
+  pub report : reports.Explained
+  pub headline : Headline k.params k.packets report
+  pub client : map data_of l.client.items ≡ all_captured origins report.server_taken
+  pub server : map data_of l.server.items ≡ all_captured origins report.client_taken
+
+abbrev pub lists_in : Filling → Lists
+lists_in f = record { client = f.client; server = f.server }
+
+-- that of what crossed together with the supposed PDUs
+pub record IsJudged (p : Parameters) (packets : List NumberedPacket) (j : Judged) : Type 0 where
+  pub crossed : after_packets (nothing_crossed p) (mended p j.filling.pdus.items packets) ≡ Ok j.store
+  pub origins : j.origins.items ≡ origins_from j.filling.pdus.items 0 packets
+  pub lists : AreLists j.store j.origins.items (lists_in j.filling)
+
+pub record IsFilling (p : Parameters) (packets : List NumberedPacket) (f : Filling) : Type 0 where
+  pub crossing : Crossing
+  pub crossed : after_packets (nothing_crossed p) (mended p f.pdus.items packets) ≡ Ok crossing
+  pub lists : AreLists crossing (origins_from f.pdus.items 0 packets) (lists_in f)
