@@ -49,7 +49,9 @@ fn explaining_text(alloc: Global, explaining: &Explaining<'_>) -> Option<String>
     let certificate = certificate.unwrap_or("-");
     let form = form_text(alloc, *form)?;
     let suppose = suppose.unwrap_or(0);
-    format!(in alloc; "explain {capture} {parameters} {certificate} {without:?} {suppose} {form}").ok()
+    format!(in alloc;
+        "explain {capture} {parameters} {certificate} {without:?} {suppose} {form}"
+    ).ok()
 }
 
 fn showing_text(alloc: Global, showing: &Showing<'_>) -> Option<String> {

@@ -6,6 +6,7 @@ pub mod packet_cases;
 pub mod rule_cases;
 pub mod script_cases;
 pub mod step_cases;
+pub mod suppose_cases;
 pub mod window_cases;
 
 use rasta_pdu::Params;
@@ -15,8 +16,9 @@ use std::alloc::Global;
 /// What stands before each case of a table.
 pub const MARK: &str = "== ";
 
-/// A capture of `rasta_rows`, the changes of its bytes, the records that are left out, with `suppose=N` where PDUs are to be
-/// supposed, the parameters that a word names, a certificate, with `; ` in the place of each line feed, what the case has of its own, and what is wanted.
+/// A capture of `rasta_rows`, the changes of its bytes, the records that are left out, with `suppose=N` where PDUs are to
+/// be supposed, the parameters that a word names, a certificate, with `; ` in the place of each line feed, what the case
+/// has of its own, and what is wanted.
 #[derive(Clone, Copy)]
 pub struct Case<'a> {
     pub settings: &'a str,

@@ -4,6 +4,7 @@ use crate::cases::packet_cases::packets;
 use crate::cases::rule_cases::{RULE, TROUBLE, layouts, rules};
 use crate::cases::script_cases::scripts;
 use crate::cases::step_cases::steps;
+use crate::cases::suppose_cases::{GAP, supposed};
 use crate::cases::window_cases::{WindowCase, window_case_in, windows};
 use crate::cases::{Case, Given, MARK, case_in, explained};
 use rasta_pcap::devices::{FailAt, Pieces};
@@ -154,6 +155,11 @@ fn told_rules(rt: HostRuntime) {
 #[test]
 fn told_layouts(rt: HostRuntime) {
     assert_eq!(rt; first_wrong_after(rt.alloc(), TROUBLE, layouts()), None);
+}
+
+#[test]
+fn told_suppositions(rt: HostRuntime) {
+    assert_eq!(rt; first_wrong_after(rt.alloc(), GAP, supposed()), None);
 }
 
 /// The parameters of a case, for the records of its window.

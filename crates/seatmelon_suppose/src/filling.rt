@@ -63,8 +63,8 @@ pub fn origin_at(origins: &[Option<usize>], place: u32) -> Option<usize>
     *origins.get(place as usize)?
 }
 
-// Where the packet at a place was captured, or else the next captured one.
-fn shown_at(origins: &[Option<usize>], place: u32) -> usize {
+/// Where the packet at a place was captured, or else the next captured one.
+pub fn shown_at(origins: &[Option<usize>], place: u32) -> usize {
     let behind = origins.iter().skip(place as usize);
     behind.flatten().copied().next().unwrap_or(0)
 }

@@ -3,7 +3,7 @@ ghost use Rattle.std.specs.Prelude.{◌≡◌, IfErr};
 ghost use Rattle.rasta_pcap.specs.Fault.{no_memory};
 
 use crate::candidates::{KINDS, candidates};
-use crate::filling::origin_at;
+use crate::filling::shown_at;
 use crate::gap::{Gap, gap_at};
 use crate::mending::{Mended, mend};
 use crate::scene::{Scene, scene_of};
@@ -116,7 +116,7 @@ fn reach_of(
         }),
         Err(fault) if fault.number == Fault::NO_MEMORY => Err(fault),
         Err(fault) => Ok(Reach {
-            place: origin_at(origins, fault.place.saturating_sub(1)).unwrap_or(0),
+            place: shown_at(origins, fault.place.saturating_sub(1)),
             fault: Some(fault),
         }),
     }

@@ -98,7 +98,7 @@ fn write_way<W: Sink>(writer: &mut W, packets: &[Sighting], way: &Tried) -> Resu
             number,
             ",\"type_name\":\"",
             name_of(way.kind),
-            "\",\"explained_up_to\":"
+            "\",\"explained_before\":"
         ],
     )?;
     write_place(writer, packets, place_at(way.reach))?;

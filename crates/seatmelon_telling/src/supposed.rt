@@ -28,11 +28,19 @@ What it rests on:
 
 /// The premises on what reached the tap.
 pub const MISSED: &str =
-    "The tap missed exactly the supposed PDUs, each of one of these types and values.";
+    "The tap missed exactly the supposed PDUs, as one of these fillings has them.";
 
 pub const REACHED_ELSE: &str = "\
 Whatever else an end sent reached the tap, in the order in which it was sent, and the capture has
   all of it, in that order.";
+
+const NOTHING_TRIED: &str = "
+nothing is supposed: more PDUs are missing than may be supposed, or number and SN don't skip alike
+";
+
+const NOTHING_FOUND: &str = "
+no filling of the gaps was found with which the rules can explain all packets
+";
 
 /// The place of a captured packet.
 pub fn place_at(place: usize) -> u32 {
@@ -72,8 +80,41 @@ fn messages_of(kind: Kind) -> &'static str {
     }
 }
 
-// Writes what else a supposed PDU says.
-fn write_values<W: Sink>(writer: &mut W, pdu: &Supposed) -> Result<(), Fault>
+// The PDU of a filling with the sender and the number of this one.
+fn same_in<'a>(filling: &'a Filling, pdu: &Supposed) -> Option<&'a Supposed> {
+    filling.pdus.iter().find(|other| other.sender == pdu.sender
+        && other.fields.number == pdu.fields.number)
+}
+
+// Whether a filling says of a PDU what this one does.
+fn says_same(filling: &Filling, pdu: &Supposed) -> bool {
+    match same_in(filling, pdu) {
+        Some(other) => other.fields == pdu.fields,
+        None => false,
+    }
+}
+
+// Whether one of these fillings says of a PDU what this one does.
+fn is_told(fillings: &[Filling], pdu: &Supposed) -> bool {
+    fillings.iter().any(|filling| says_same(filling, pdu))
+}
+
+// Writes which fillings say this of a PDU, where there are several of each.
+fn write_owners<W: Sink>(writer: &mut W, fillings: &[Filling], pdu: &Supposed) -> Result<(), Fault>
+    ensures err { IfErr result (λ f. f ≡ write_failed) }
+{
+    let mut before = "; filling ";
+    for (number, filling) in fillings.iter().enumerate() {
+        if fillings.len() > 1 && filling.pdus.len() > 1 && says_same(filling, pdu) {
+            write_parts(writer, &parts![before, number as u64 + 1])?;
+            before = ", ";
+        }
+    }
+    write_words(writer, "\n")
+}
+
+// Writes what else a supposed PDU says, and in which fillings.
+fn write_values<W: Sink>(writer: &mut W, fillings: &[Filling], pdu: &Supposed) -> Result<(), Fault>
     ensures err { IfErr result (λ f. f ≡ write_failed) }
 {
     let number = pdu.fields.kind.number();
@@ -90,28 +131,8 @@ fn write_values<W: Sink>(writer: &mut W, pdu: &Supposed) -> Result<(), Fault>
             ", TS "
         ],
     )?;
-    write_parts(
-        writer,
-        &parts![pdu.fields.ts, ", CTS ", pdu.fields.cts, "\n"],
-    )
-}
-
-// The PDU of a filling with the sender and the number of this one.
-fn same_in<'a>(filling: &'a Filling, pdu: &Supposed) -> Option<&'a Supposed> {
-    filling.pdus.iter().find(|other| other.sender == pdu.sender
-        && other.fields.number == pdu.fields.number)
-}
-
-// Whether one of these fillings says of a PDU what this one does.
-fn is_told(fillings: &[Filling], pdu: &Supposed) -> bool {
-    for filling in fillings {
-        if let Some(other) = same_in(filling, pdu) {
-            if other.fields == pdu.fields {
-                return true;
-            }
-        }
-    }
-    false
+    write_parts(writer, &parts![pdu.fields.ts, ", CTS ", pdu.fields.cts])?;
+    write_owners(writer, fillings, pdu)
 }
 
 // Writes what the fillings say of a supposed PDU, each once.
@@ -127,7 +148,7 @@ fn write_pdu<W: Sink>(
     for (number, filling) in fillings.iter().enumerate() {
         if let Some(other) = same_in(filling, pdu) {
             if !is_told(&fillings[..number], other) {
-                write_values(writer, other)?;
+                write_values(writer, fillings, other)?;
             }
         }
     }
@@ -218,7 +239,7 @@ fn write_tried<W: Sink>(writer: &mut W, packets: &[Sighting], tried: &Tried) -> 
             number,
             ", ",
             name_of(tried.kind),
-            ": packets are explained up to "
+            ": explains all packets before "
         ],
     )?;
     write_parts(writer, &place_of(packets, place_at(tried.reach)))
@@ -251,7 +272,11 @@ fn write_in_vain<W: Sink>(
 {
     write_words(
         writer,
-        "\nno filling of the gaps was found with which the rules can explain all packets\n",
+        if gaps.is_empty() {
+            NOTHING_TRIED
+        } else {
+            NOTHING_FOUND
+        },
     )?;
     for filled in gaps {
         write_missing(writer, packets, &filled.gap)?;

@@ -118,9 +118,10 @@ const WRONG_START_WORDS: Hint = Hint {
 const WITHOUT_COPY: &str = "what --without with its record says";
 
 const BEHIND_GAP: &str =
-    "the packets of this end around the missing number, with seatmelon show; up to the gap the capture
-  can be explained with last_record, and behind it from a quiet point, of which
-  seatmelon draft CAPTURE N --after RECORD PARAMS proposes some";
+    "the packets of this end around the missing number, with seatmelon show; if the tap may have missed
+  PDUs, what --suppose N says; up to the gap the capture can be explained with last_record, and
+  behind it from a quiet point, of which seatmelon draft CAPTURE N --after RECORD PARAMS proposes
+  some";
 
 // The hint on a fault.
 fn hint_on(number: u8) -> Hint {

@@ -176,6 +176,19 @@ const PARTS: &str = r#"
 "deadline":{"clock":10801,"confirmed_time":9000,"t_max":1800,"slack":0,"deadline":10800}}}
 == timed plain: 0 1 2 14 |  |  | plain |  | Another SN than the next one.
 "rule":{"words":"SN isn't the next one of this end","number_due":102,"number_found":112,"peer_pdu":null,"deadline":null}}
+== heartbeats plain: 0 1 2 3 5 |  | suppose=1 | plain |  | A heartbeat is missing, and data would do as well.
+"supposed":{"fillings":[[{"from":"server","before":{"record":5,"time":"1970-01-01 00:00:00.000000 UTC","channel":1},
+"redundancy_number":42,"type":6220,"type_name":"heartbeat","sn":502,"cs":101,"ts":9010,"cts":1010}],
+[{"from":"server","before":{"record":5,"time":"1970-01-01 00:00:00.000000 UTC","channel":1},
+"redundancy_number":42,"type":6240,"type_name":"data","sn":502,"cs":101,"ts":9010,"cts":1010}]],
+"gaps":[{"from":"server","missing":1,"before":{"record":5,"time":"1970-01-01 00:00:00.000000 UTC","channel":1},
+"ways":[{"type":6220,"type_name":"heartbeat","explained_before":null},
+{"type":6240,"type_name":"data","explained_before":null},
+{"type":6212,"type_name":"retransmission request",
+"explained_before":{"record":5,"time":"1970-01-01 00:00:00.000000 UTC","channel":1}}]}],
+"premises":["The tap missed exactly the supposed PDUs, as one of these fillings has them.",
+"Whatever else an end sent reached the tap, in the order in which it was sent, and the capture has 
+all of it, in that order."
 "#;
 
 /// Cases with a part of their JSON, of each kind.

@@ -236,9 +236,10 @@ what is wrong with it:
 may be the cause:
   the packet that was due was overtaken before it reached the tap
 look next at:
-  the packets of this end around the missing number, with seatmelon show; up to the gap the capture
-  can be explained with last_record, and behind it from a quiet point, of which
-  seatmelon draft CAPTURE N --after RECORD PARAMS proposes some
+  the packets of this end around the missing number, with seatmelon show; if the tap may have missed
+  PDUs, what --suppose N says; up to the gap the capture can be explained with last_record, and
+  behind it from a quiet point, of which seatmelon draft CAPTURE N --after RECORD PARAMS proposes
+  some
 == data plain: 0 1 3 |  |  | plain |  | A packet is missing.
 refused by 28 NumberGap:
   this redundancy number has not crossed before, and isn't the next
@@ -269,9 +270,10 @@ what is wrong with it:
 may be the cause:
   the tap missed whole PDUs, or they were cut from the file
 look next at:
-  the packets of this end around the missing number, with seatmelon show; up to the gap the capture
-  can be explained with last_record, and behind it from a quiet point, of which
-  seatmelon draft CAPTURE N --after RECORD PARAMS proposes some
+  the packets of this end around the missing number, with seatmelon show; if the tap may have missed
+  PDUs, what --suppose N says; up to the gap the capture can be explained with last_record, and
+  behind it from a quiet point, of which seatmelon draft CAPTURE N --after RECORD PARAMS proposes
+  some
 == data plain: 0 1 2 3 |  | 3 | plain |  | The same where the heartbeat of a whole capture is left out.
 refused by 28 NumberGap without record 3:
   this redundancy number has not crossed before, and isn't the next
@@ -302,9 +304,10 @@ what is wrong with it:
 may be the cause:
   the tap missed whole PDUs, or they were cut from the file
 look next at:
-  the packets of this end around the missing number, with seatmelon show; up to the gap the capture
-  can be explained with last_record, and behind it from a quiet point, of which
-  seatmelon draft CAPTURE N --after RECORD PARAMS proposes some
+  the packets of this end around the missing number, with seatmelon show; if the tap may have missed
+  PDUs, what --suppose N says; up to the gap the capture can be explained with last_record, and
+  behind it from a quiet point, of which seatmelon draft CAPTURE N --after RECORD PARAMS proposes
+  some
 == data plain: 2 |  |  | plain |  | A heartbeat, and no opening before it.
 refused by 60 NotFound:
   no two ends that keep the rules send packets that begin with those up to this one

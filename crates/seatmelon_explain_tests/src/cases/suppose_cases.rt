@@ -1,0 +1,53 @@
+//! Captures with gaps, and what is told of PDUs that are supposed there.
+
+/// What stands before the part on what is supposed: the end of the words on a gap.
+pub const GAP: &str = "proposes\n  some\n\n";
+
+const SUPPOSED: &str = r#"
+== heartbeats plain: 0 1 2 3 5 |  | suppose=1 | plain |  | A heartbeat is missing, and data would do as well.
+explained with 1 supposed PDU, as a hypothesis: if the tap missed what follows, the rules can explain all packets
+  from the server, redundancy number 42, SN 502, just before record 5, 1970-01-01 00:00:00.000000 UTC, channel 1
+    6220, heartbeat: CS 101, TS 9010, CTS 1010
+    6240, data, its messages not known: CS 101, TS 9010, CTS 1010
+client to server: 0 of 0 captured messages surely taken, under each of 2 fillings
+server to client: 0 of 0 captured messages surely taken, under each of 2 fillings
+== lost plain: 0 1 2 3 4 5 7 8 9 10 |  | suppose=1 | plain |  | A response is missing.
+explained with 1 supposed PDU, as a hypothesis: if the tap missed what follows, the rules can explain all packets
+  from the client, redundancy number 11, SN 104, just before record 7, 1970-01-01 00:00:00.000000 UTC, channel 1
+    6213, retransmission response: CS 501, TS 1030, CTS 9060
+client to server: 2 of 2 captured messages surely taken
+server to client: 0 of 0 captured messages surely taken
+== heartbeats plain: 0 1 2 3 6 |  | suppose=2 | plain |  | Two PDUs are missing together.
+explained with 2 supposed PDUs, as a hypothesis: if the tap missed what follows, the rules can explain all packets
+  from the server, redundancy number 42, SN 502, just before record 5, 1970-01-01 00:00:00.000000 UTC, channel 1
+    6220, heartbeat: CS 101, TS 9010, CTS 1010; filling 1
+    6240, data, its messages not known: CS 101, TS 9010, CTS 1010; filling 2
+  from the server, redundancy number 43, SN 503, just before record 5, 1970-01-01 00:00:00.000000 UTC, channel 1
+    6220, heartbeat: CS 101, TS 9010, CTS 1010; filling 1
+    6240, data, its messages not known: CS 101, TS 9010, CTS 1010; filling 2
+client to server: 0 of 0 captured messages surely taken, under each of 2 fillings
+server to client: 0 of 0 captured messages surely taken, under each of 2 fillings
+== heartbeats plain: 0 1 2 3 5 7 |  | suppose=2 | plain |  | Two PDUs are missing apart.
+explained with 2 supposed PDUs, as a hypothesis: if the tap missed what follows, the rules can explain all packets
+  from the server, redundancy number 42, SN 502, just before record 5, 1970-01-01 00:00:00.000000 UTC, channel 1
+    6220, heartbeat: CS 101, TS 9010, CTS 1010; filling 1, 3
+    6240, data, its messages not known: CS 101, TS 9010, CTS 1010; filling 2
+  from the server, redundancy number 44, SN 504, just before record 6, 1970-01-01 00:00:00.000000 UTC, channel 1
+    6220, heartbeat: CS 101, TS 9030, CTS 1010; filling 1, 2
+    6240, data, its messages not known: CS 101, TS 9030, CTS 1010; filling 3
+client to server: 0 of 0 captured messages surely taken, under each of 3 fillings
+server to client: 0 of 0 captured messages surely taken, under each of 3 fillings
+== heartbeats plain: 0 1 2 3 6 |  | suppose=1 | plain |  | More PDUs are missing than may be supposed.
+nothing is supposed: more PDUs are missing than may be supposed, or number and SN don't skip alike
+== heartbeats plain: 0 1 2 3 5 18 |  | suppose=1 | plain |  | Behind the gap the server asks for what nobody sent.
+no filling of the gaps was found with which the rules can explain all packets
+  from the server, 1 missing, before record 5, 1970-01-01 00:00:00.000000 UTC, channel 1
+    6220, heartbeat: explains all packets before record 6, 1970-01-01 00:00:00.000000 UTC, channel 1
+    6240, data: explains all packets before record 6, 1970-01-01 00:00:00.000000 UTC, channel 1
+    6212, retransmission request: explains all packets before record 5, 1970-01-01 00:00:00.000000 UTC, channel 1
+"#;
+
+/// Cases with what is told of PDUs that are supposed.
+pub fn supposed() -> &'static str {
+    SUPPOSED
+}
