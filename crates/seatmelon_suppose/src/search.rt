@@ -190,12 +190,11 @@ impl Search<'_> {
         Ok(best)
     }
 
-    // For each type the best way to fill a gap, where so much crossed before it.
-    fn try_all(self, chosen: &[Supposed], mended: &Mended, gap: &Gap) -> Result<Vec<Tried>, Fault> {
-        let scene = scene_of(self.alloc, self.params, self.packets, mended, gap)?;
+    // For each type the best way to fill a gap.
+    fn try_all(self, chosen: &[Supposed], scene: &Scene, gap: &Gap) -> Result<Vec<Tried>, Fault> {
         let mut tried = Vec::new(self.alloc);
         for kind in KINDS {
-            if let Some(way) = self.try_kind(chosen, &scene, gap, kind)? {
+            if let Some(way) = self.try_kind(chosen, scene, gap, kind)? {
                 match tried.push(way) {
                     Ok(()) => {}
                     Err(error) => return Err(AllocError::from(error).into()),
@@ -205,17 +204,24 @@ impl Search<'_> {
         Ok(tried)
     }
 
-    // Fills the next gap behind what is chosen, in which at most so many PDUs may be missing; none where there is no gap.
+    // Fills the next gap behind what is chosen, in which at most so many PDUs may be missing, where packets are explained up
+    // to the first one that shows it; none where there is no such gap.
     fn fill(
         self,
         chosen: &[Supposed],
         mended: &Mended,
+        reach: Reach,
         most: u32,
     ) -> Result<Option<Filled>, Fault> {
         let Some(gap) = gap_at(self.params, self.packets, mended, most) else {
             return Ok(None);
         };
-        let tried = self.try_all(chosen, mended, &gap)?;
+        let scene = scene_of(self.alloc, self.params, self.packets, mended, &gap)?;
+        let is_shown = scene.shown.iter().any(|place| *place <= reach.place);
+        if !reach.is_open() && !is_shown {
+            return Ok(None);
+        }
+        let tried = self.try_all(chosen, &scene, &gap)?;
         Ok(Some(Filled { gap, tried }))
     }
 }
@@ -251,11 +257,8 @@ pub fn look_for(
         let (mended, reach) = search.reach_below(&pdus, packets.len())?;
         place = reach.place;
         stop = reach.fault;
-        if !reach.is_open() {
-            break;
-        }
         let left = u32::try_from(pdus.len()).map_or(0, |chosen| most.saturating_sub(chosen));
-        let Some(filled) = search.fill(&pdus, &mended, left)? else {
+        let Some(filled) = search.fill(&pdus, &mended, reach, left)? else {
             break;
         };
         let is_chosen = choose(&mut pdus, &filled)?;
