@@ -1,7 +1,7 @@
 #!/usr/bin/env python3
 """Runs the programs on a capture, and writes one page with all that they said.
 
-    report.py [--program PATH] [--seatmelon PATH] [--certificate FILE] [--places A-B] [--without-show]
+    report.py [--program PATH] [--seatmelon PATH] [--certificate FILE] [--suppose N] [--places A-B] [--without-show]
               CAPTURE PARAMS OUT.html
 
 The page is viewer/index.html with the texts of `show`, of `build` (or the given certificate) and of `check`, or
@@ -9,8 +9,9 @@ where no certificate is found of `audit`, the parameter file, the SHA-256 of eac
 kit's line (`rt version`), and the commands by which anyone checks it again. It needs no other file and no network.
 The programs are those that `rt run` leaves in crates/rasta_audit and crates/seatmelon, or else those on the path.
 Where there is a seatmelon, the page has the times of the records too, how many packets of the recorded channels lie
-outside the window, if one is recorded, and of a gap (28) the numbers due and found. With --places the page shows the
-packets at these places alone, until its filter is changed.
+outside the window, if one is recorded, and of a gap (28) the numbers due and found; with --suppose also what explains
+the packets if the tap missed at most N PDUs, which the page draws dashed. With --places the page shows the packets at
+these places alone, until its filter is changed.
 
 The exit status is that of the answer: 0 where the packets are explained, 1 where something is refused or no packet is
 of the connection, 2 where the parameters are refused, 3 where memory, reading or writing failed. It is 2 too, with no
@@ -61,17 +62,29 @@ def places_in(text):
     return [int(found[1]), int(found[2])]
 
 
+def count_in(text):
+    if not re.fullmatch("[0-9]{1,2}", text) or not 1 <= int(text) <= 16:
+        raise argparse.ArgumentTypeError("a number from 1 to 16 is wanted")
+    return int(text)
+
+
 def words_of_command_line():
     asked = argparse.ArgumentParser(description="Writes a page with the answer about a capture.")
     asked.add_argument("--program", type=pathlib.Path, default=program_file("rasta_audit"), help="rasta_audit")
     asked.add_argument("--seatmelon", type=pathlib.Path, default=program_file("seatmelon"), help="seatmelon, if there is one")
     asked.add_argument("--certificate", type=pathlib.Path, help="a certificate to check by, in place of one that is built")
+    asked.add_argument("--suppose", type=count_in, metavar="N", help="look for up to N PDUs that the tap missed")
     asked.add_argument("--places", type=places_in, metavar="A-B", help="show the packets at these places alone")
     asked.add_argument("--without-show", action="store_true", help="leave out the text of show, which is long")
     asked.add_argument("capture", type=pathlib.Path)
     asked.add_argument("parameters", type=pathlib.Path)
     asked.add_argument("out", type=pathlib.Path)
-    return asked.parse_args()
+    words = asked.parse_args()
+    if words.suppose and words.certificate:
+        asked.error("--suppose goes with no certificate")
+    if words.suppose and not words.seatmelon.is_file():
+        asked.error(f"--suppose wants seatmelon, and {words.seatmelon} is no file")
+    return words
 
 
 def sum_of(path):
@@ -132,12 +145,13 @@ def connection_in(text):
         return None
 
 
-def explanation_of(seatmelon, capture, parameters, certificate):
+def explanation_of(seatmelon, capture, parameters, certificate, suppose):
     """What `seatmelon explain` says as JSON; nothing where there is no such program or answer."""
     if not seatmelon.is_file():
         return {}
     files = [path for path in (capture, parameters, certificate) if path]
-    call = subprocess.run([seatmelon.resolve(), "explain", "--json", "--", *files], capture_output=True)
+    options = ["--json", *(["--suppose", str(suppose)] if suppose else [])]
+    call = subprocess.run([seatmelon.resolve(), "explain", *options, "--", *files], capture_output=True)
     try:
         return json.loads(call.stdout)
     except ValueError:
@@ -146,9 +160,20 @@ def explanation_of(seatmelon, capture, parameters, certificate):
 
 def refusal_in(explanation):
     """The refused record, and what is wrong with it, where a capture is refused."""
-    if explanation.get("verdict") != "refused":
+    if explanation.get("verdict") not in ("refused", "explained_with_supposed_pdus"):
         return None
     return {"record": explanation.get("record"), "trouble": explanation.get("trouble")}
+
+
+def supposition_in(explanation):
+    """What is supposed of a gap, without the messages, of which only the counts stay; nothing where nobody asked."""
+    supposed = explanation.get("supposed")
+    if not supposed:
+        return None
+    counts = ("from", "to", "surely_taken", "sent")
+    taken = [{key: way[key] for key in counts} for way in supposed.get("messages", [])]
+    kept = {key: supposed[key] for key in ("fillings", "gaps", "premises") if key in supposed}
+    return {**kept, "taken": taken}
 
 
 def times_of(seatmelon, capture, parameters):
@@ -160,10 +185,15 @@ def times_of(seatmelon, capture, parameters):
     return [[int(one[1]), one[2].decode()] for one in found if one]
 
 
-def commands_for(program, capture, parameters, certificate):
-    files = [path.name for path in (capture, parameters, certificate) if path]
+def commands_for(asked, certificate):
+    program, seatmelon = asked.program, asked.seatmelon
+    files = [path.name for path in (asked.capture, asked.parameters, certificate) if path]
+    programs = [program.name, *([seatmelon.name] if asked.suppose else [])]
     command = "check" if certificate else "audit"
-    return [shlex.join(["sha256sum", program.name, *files]), shlex.join([f"./{program.name}", command, *files])]
+    commands = [["sha256sum", *programs, *files], [f"./{program.name}", command, *files]]
+    if asked.suppose:
+        commands.append([f"./{seatmelon.name}", "explain", "--suppose", str(asked.suppose), *files[:2]])
+    return [shlex.join(words) for words in commands]
 
 
 def report_of(asked, folder):
@@ -171,12 +201,14 @@ def report_of(asked, folder):
     certificate = asked.certificate or built_certificate(program, capture, parameters, folder)
     by_certificate = ("check", capture, parameters, certificate)
     status, verdict = answer_of(program, *(by_certificate if certificate else ("audit", capture, parameters)))
-    explanation = explanation_of(asked.seatmelon, capture, parameters, asked.certificate)
+    explanation = explanation_of(asked.seatmelon, capture, parameters, asked.certificate, asked.suppose)
     texts = [
         ("verdict", f"{capture.stem}.answer.txt", verdict),
         ("parameters", parameters.name, parameters.read_bytes()),
     ]
     files = [described("program", program), described("capture", capture), described("parameters", parameters)]
+    if asked.suppose:
+        files.insert(1, described("program", asked.seatmelon))
     if certificate:
         texts.append(("certificate", certificate.name, certificate.read_bytes()))
         files.append(described("certificate", certificate))
@@ -186,10 +218,11 @@ def report_of(asked, folder):
         "title": capture.name,
         "files": files,
         "kit": kit_line(),
-        "commands": commands_for(program, capture, parameters, certificate),
+        "commands": commands_for(asked, certificate),
         "connection": connection_in(decoded(parameters.read_bytes())),
         "window": explanation.get("window"),
         "refusal": refusal_in(explanation),
+        "supposed": supposition_in(explanation),
         "times": times_of(asked.seatmelon, capture, parameters),
         "places": asked.places,
         "texts": [{"kind": kind, "name": name, "text": decoded(data)} for kind, name, data in texts],

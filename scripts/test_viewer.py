@@ -10,7 +10,7 @@ leaves at its default path; and plain Python 3, no other packages. It installs n
 - a report of each sample, printed too, of random runs, and of 200,000 packets, which are made up here;
 - a refusal of each number, and refusals of samples that were changed, with the packets around them;
 - texts that are dropped, pasted, chosen, cut, joined with those of another capture, or hostile;
-- times of records, the numbers of a gap, chosen places, numbers of ten digits, and the statuses of report.py;
+- times of records, the numbers of a gap, supposed PDUs, chosen places, numbers of ten digits, and the statuses of report.py;
 - filters, keys, both colour schemes, and the picture saved as SVG.
 
 In each the page's counts are those of the texts, its console says nothing, and it asks for nothing. With --renew
@@ -880,6 +880,57 @@ def times_and_numbers(stage):
         expect_equal(found[2], f"2026-01-01 00:00:00.00{found[1]}000", "the time of the record")
 
 
+def supposed(kind, name, record):
+    place = {"record": record, "time": "2026-01-01 00:00:00.030000 UTC", "channel": 1}
+    pdu = {"from": "client", "before": place, "redundancy_number": 11, "type": kind, "type_name": name}
+    return {**pdu, "sn": 104, "cs": 501, "ts": 1020, "cts": 9020}
+
+
+def stand_in_with(stage, supposition):
+    """A program that says so of a gap before record 7."""
+    answer = {"verdict": "explained_with_supposed_pdus" if supposition["fillings"] else "refused", "window": None, "record": None}
+    program = stage.file("stand_in", f"#!/bin/sh\ncat <<'END'\n{json.dumps({**answer, 'trouble': None, 'supposed': supposition})}\nEND\n")
+    program.chmod(0o755)
+    return program
+
+
+def supposed_pdus(stage):
+    """PDUs that the tap is supposed to have missed stand behind the refusal, dashed and before its mark."""
+    capture = EXAMPLES / "missing_packet.pcap"
+    response, heartbeat = supposed(6213, "retransmission response", 7), supposed(6220, "heartbeat", 7)
+    messages = [
+        {"from": "client", "to": "server", "surely_taken": 4, "sent": 5, "not_shown": None, "messages": []},
+        {"from": "server", "to": "client", "surely_taken": 0, "sent": 0, "not_shown": None, "messages": []},
+    ]
+    told = {"fillings": [[response], [heartbeat]], "gaps": [], "premises": ["The tap missed <them>."], "messages": messages}
+    with stage.report(capture, capture.with_suffix(".toml"), "--seatmelon", stand_in_with(stage, told), "--suppose", "1") as sight:
+        sight.expect_counts(verdict="refused", refused=28)
+        said = sight.text("#verdict")
+        for words in (
+            "Explained with 1 supposed PDU, as a hypothesis",
+            "The capture as it is stays refused.",
+            "From the client, number 11, SN 104, just before record 7: retransmission response (CS 501, TS 1020, CTS 9020), filling 1; or heartbeat (CS 501, TS 1020, CTS 9020), filling 2.",
+            "Under each of 2 fillings: client to server, 4 of 5 captured messages surely taken; server to client, 0 of 0 captured messages surely taken.",
+            "The tap missed <them>.",
+        ):
+            expect(words in said, f"not told: {words}: {said[:1500]}")
+        kinds = sight.act("Array.from(state.model.story.kind.values.subarray(0, state.model.story.rows))")
+        expect_equal(kinds.count(5), 1, "lines of supposed PDUs")
+        expect_equal(kinds.index(4), kinds.index(5) + 1, "the line of the mark")
+        expect_equal(sight.act("document.querySelectorAll('#chart line.supposed').length"), 1, "dashed arrows")
+        dashes = sight.act("getComputedStyle(document.querySelector('#chart line.supposed')).strokeDasharray")
+        expect(dashes not in ("", "none"), f"not dashed: {dashes}")
+        sight.act(f"pickRow({kinds.index(5)})")
+        expect("This wasn't captured." in sight.text("#details"), "the details of a supposed PDU")
+        sight.shot("supposed")
+    gap = {"from": "client", "missing": 1, "before": response["before"], "ways": [
+        {"type": 6220, "type_name": "heartbeat", "explained_before": {"record": 8, "time": None, "channel": 1}}]}
+    with stage.report(capture, capture.with_suffix(".toml"), "--seatmelon", stand_in_with(stage, {"fillings": [], "gaps": [gap]}), "--suppose", "1") as sight:
+        said = sight.text("#verdict")
+        expect("1 PDU of the client before record 7, heartbeat: explains all packets before record 8." in said, f"in vain: {said[:1200]}")
+        expect_equal(sight.act("document.querySelectorAll('#chart line.supposed').length"), 0, "dashed arrows")
+
+
 def places_of_a_report(stage):
     """A report that is about some places alone."""
     capture = EXAMPLES / "retransmission.pcap"
@@ -904,6 +955,9 @@ def statuses(stage):
     expect_equal(status_of(*handshake, out="missing/status.html"), 2, "a missing folder")
     expect_equal(status_of(*handshake, "--places", "7-3"), 2, "places that fall")
     expect_equal(status_of(handshake[0], stage.scratch / "none.toml"), 2, "a missing file")
+    expect_equal(status_of(*handshake, "--suppose", "17"), 2, "too many supposed PDUs")
+    certificate = EXAMPLES / "handshake.cert"
+    expect_equal(status_of(*handshake, "--suppose", "1", "--certificate", certificate), 2, "supposed PDUs and a certificate")
 
 
 def carriage_returns(stage):
@@ -944,7 +998,7 @@ def ten_digits(stage):
         sight.shot("ten_digits")
 
 
-STORIES = [policy_is_closed, times_and_numbers, places_of_a_report, statuses, carriage_returns, ten_digits, ways_in, other_capture, unknown_texts, cut_texts, bent_texts, hostile, hostile_parameters,
+STORIES = [policy_is_closed, times_and_numbers, supposed_pdus, places_of_a_report, statuses, carriage_returns, ten_digits, ways_in, other_capture, unknown_texts, cut_texts, bent_texts, hostile, hostile_parameters,
            long_lines, keys, filters, colours, not_taken, no_packets, no_capture, window_is_told, random_runs_are_drawn]  # fmt: skip
 
 
