@@ -23,8 +23,9 @@ each as NAME.pcap, NAME.toml and expected/NAME.txt, what `show` prints. Those fr
 have also NAME.cert and expected/NAME.check.txt, what `check` prints; the others expected/NAME.audit.txt, the refusal
 that `audit` prints. station/station.pcap holds three connections, whose parameter files stand beside it, and
 expected/station.audits.txt is what `seatmelon audit station/station.pcap station` prints. expected/excerpt.explain.txt is what `seatmelon explain excerpt.pcap excerpt.toml` prints, where the
-files stand, and expected/late_copies.survey.txt what `seatmelon survey` prints. Every run writes the same bytes. All
-addresses, clocks and numbers are made up.
+files stand, expected/missing_packet.suppose.txt what `seatmelon explain --suppose 1` prints there of missing_packet, and
+expected/late_copies.survey.txt what `seatmelon survey` prints. Every run writes the same bytes. All addresses, clocks
+and numbers are made up.
 
 The expected texts of `show` come about in two ways, which are compared: from the list of PDUs that the
 captures were made of, and by a reader of this script's own, which takes the finished file apart. Those
@@ -1287,6 +1288,99 @@ def write_excerpt_text():
     (HERE / "expected" / "excerpt.explain.txt").write_bytes(text.encode())
 
 
+SUPPOSED = """\
+refused by 28 NumberGap:
+  this redundancy number has not crossed before, and isn't the next
+
+record 7, 2026-01-01 00:00:00.030000 UTC, channel 1, from the client
+  bytes of the datagram: 62
+  type: 6241, retransmitted data
+  length field: 62
+  redundancy number: 12
+  length field of the safety layer: 50
+  receiver: 97
+  sender: 96
+  SN: 105
+  CS: 501
+  TS: 1035
+  CTS: 9020
+  payload and codes: 0200ab010000adcb411a801e6db734b7fd72d13330595aee7ead
+what is wrong with it:
+  redundancy number due: 11
+  redundancy number found: 12
+  SN due: 104
+  SN found: 105
+  the end's last number before it: 10, SN 103, first in record 5, 2026-01-01 00:00:00.020000 UTC, channel 1
+  11 doesn't cross later in the window
+  both numbers skip 1, as where so many whole PDUs never reached the tap or were cut from the file
+  the capture has the opening of the connection
+
+may be the cause:
+  the tap missed whole PDUs, or they were cut from the file
+look next at:
+  the packets of this end around the missing number, with seatmelon show; if the tap may have missed
+  PDUs, what --suppose N says; up to the gap the capture can be explained with last_record, and
+  behind it from a quiet point, of which seatmelon draft CAPTURE N --after RECORD PARAMS proposes
+  some
+
+explained with 1 supposed PDU, as a hypothesis: if the tap missed what follows, the rules can explain all packets
+  from the client, redundancy number 11, SN 104, just before record 7, 2026-01-01 00:00:00.030000 UTC, channel 1
+    6213, retransmission response: CS 501, TS 1020, CTS 9020
+client to server: 5 of 5 captured messages surely taken
+server to client: 0 of 0 captured messages surely taken
+
+What the supposition says:
+  Under each of these fillings some run of two ends that keep the rules, over a network that loses,
+  repeats, delays and reorders packets, sends exactly these packets and the supposed ones past the
+  tap, in this order.
+  In every such run the far end handed up each message that is listed as surely taken, once and in
+  order, before the packet that is its proof crossed the tap.
+What it doesn't say:
+  that the tap missed a PDU: the capture as it is is refused, and others may fill the gap too.
+  A message that is listed as not shown may have been taken all the same.
+What it rests on:
+  The tap missed exactly the supposed PDUs, as one of these fillings has them.
+  Whatever else an end sent reached the tap, in the order in which it was sent, and the capture has
+  all of it, in that order.
+  Nobody else sent a packet with a valid safety code between the recorded addresses.
+  The parameters are right.
+  For 'surely taken': both ends kept the rules.
+  What is judged begins before the opening of the connection.
+
+What was judged:
+{capture}{parameters}  certificate: none was given, so one is built
+  program: seatmelon 0.1.0, proved with Rattle, logic dac8208d650f15bf
+  records read: 11
+  packets of the connection: 11
+    on channel 1, 10.0.0.1:5000 - 10.0.0.2:5000: from the client 7, from the server 4
+  records passed over: 0
+  ids: client 96, server 97
+  lengths: safety code 16, check code 4
+  start words: 0f1e2d3c4b5a69788796a5b4c3d2e1f0
+  limits: N_sendmax 20, T_max 1800, slack 0
+  quiet point: none
+Times of capture, which no verdict reads:
+  longest silence of the client: 10.000000 ms, between records 1 and 3
+  longest silence of the server: 20.000000 ms, between records 2 and 6
+
+Messages (times are UTC; those without a date are of 2026-01-01):
+client to server 0: record 4, 00:00:00.015000; proof: record 9, 00:00:00.040000; hex ab01
+client to server 1: record 4, 00:00:00.015000; proof: record 9, 00:00:00.040000; empty
+client to server 2: record 5, 2026-01-01 00:00:00.020000 UTC, channel 1
+  proof: record 9, 2026-01-01 00:00:00.040000 UTC, channel 1
+  hex, the first 32 of 100: 000102030405060708090a0b0c0d0e0f101112131415161718191a1b1c1d1e1f
+  text, the first 32 of 100: \\x00\\x01\\x02\\x03\\x04\\x05\\x06\\x07\\x08\\x09\\x0a\\x0b\\x0c\\x0d\\x0e\\x0f\\x10\\x11\\x12\\x13\\x14\\x15\\x16\\x17\\x18\\x19\\x1a\\x1b\\x1c\\x1d\\x1e\\x1f
+client to server 3: record 10, 00:00:00.045000; proof: record 11, 00:00:00.050000; empty
+client to server 4: record 10, 00:00:00.045000; proof: record 11, 00:00:00.050000; hex 02
+"""
+
+
+def write_supposed_text():
+    """What `explain --suppose 1` prints of the missing packet and its parameters, which have been written."""
+    text = SUPPOSED.format(capture=sum_lines("capture", "missing_packet.pcap"), parameters=sum_lines("parameters", "missing_packet.toml"))
+    (HERE / "expected" / "missing_packet.suppose.txt").write_bytes(text.encode())
+
+
 def write(name, connection, made, comment, refusal=None):
     data, text = made
     assert read_text(data, connection, refusal) == text, name
@@ -1340,6 +1434,7 @@ if __name__ == "__main__":
     write_excerpt_text()
     write("missing_packet", coded, in_turn(coded, MISSING_PACKET), MISSING_COMMENT)
     write_refusal("missing_packet", MISSING_REFUSAL)
+    write_supposed_text()
     write("foreign_sender", one, foreign_sender(one), FOREIGN_COMMENT, FOREIGN_REFUSAL)
     write_refusal("foreign_sender", FOREIGN_REFUSAL)
     both_coded = Connection(CHANNELS, 16, 4, OWN_START)

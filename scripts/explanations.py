@@ -11,8 +11,8 @@ The parts (all of them, if none is named):
     limits     one PDU more than can be judged, and one entry more
 
 What an explanation has to say of a sample is read from the texts of examples/expected, which `rasta_audit` has to
-print. Where NAME.survey.txt or NAME.explain.txt stands there, it is the whole text of `survey` or of `explain`. Prints a
-line for each part. `rt run` in crates/seatmelon leaves the program. Plain Python 3, no other packages.
+print. Where NAME.survey.txt or NAME.explain.txt stands there, it is the whole text of `survey` or of `explain`, and
+NAME.suppose.txt that of `explain --suppose 1`. Prints a line for each part. `rt run` in crates/seatmelon leaves the program. Plain Python 3, no other packages.
 """
 
 import argparse
@@ -106,11 +106,12 @@ def refuses(text, data, told):
 
 
 def whole_text(part, capture):
-    """Compares the text on a sample, by the names of its files alone, with the stored one, if there is one."""
-    stored = SAMPLES / "expected" / f"{capture.stem}.explain.txt"
-    if stored.exists():
-        answer = part.call("explain", capture.name, capture.with_suffix(".toml").name, cwd=SAMPLES)
-        part.judge(f"text of {capture.stem}", answer[1:] == (stored.read_text(), ""), answer)
+    """Compares the texts on a sample, by the names of its files alone, with the stored ones, if there are some."""
+    for name, options in (("explain", []), ("suppose", ["--suppose", "1"])):
+        stored = SAMPLES / "expected" / f"{capture.stem}.{name}.txt"
+        if stored.exists():
+            answer = part.call("explain", *options, capture.name, capture.with_suffix(".toml").name, cwd=SAMPLES)
+            part.judge(f"{name} text of {capture.stem}", answer[1:] == (stored.read_text(), ""), answer)
 
 
 def samples(part):
