@@ -88,6 +88,9 @@ def calls_of_seatmelon(folder):
             yield f"{name} without record 3", ["explain", *form, "--without", "3", capture, parameters]
             if certificate.exists():
                 yield f"{name} by its certificate", ["explain", *form, capture, parameters, certificate]
+    gap = samples / "missing_packet.pcap"
+    for form in ([], ["--json"]):
+        yield "missing_packet, with a supposed PDU", ["explain", *form, "--suppose", "1", gap, gap.with_suffix(".toml")]
 
 
 class Failing:
