@@ -17,6 +17,7 @@ import collections
 import json
 import pathlib
 import random
+import re
 import shutil
 import struct
 import subprocess
@@ -55,6 +56,20 @@ def taken(messages, kept):
     return listed
 
 
+def moved_window(parameters, kept):
+    """Parameters whose window has the same records where only these, counted from 0, are left."""
+
+    def moved(found):
+        bound = int(found[2])
+        if found[1] == "last_record":
+            number = sum(record < bound for record in kept)
+        else:
+            number = 1 + sum(record + 1 < bound for record in kept)
+        return f"{found[1]} = {number}"
+
+    return re.sub(r"^(first_record|last_record) *= *([0-9]+)", moved, parameters, flags=re.MULTILINE)
+
+
 class Loss:
     """Captures without some of their PDUs, and what is said of them."""
 
@@ -67,9 +82,12 @@ class Loss:
         capture = (folder / "run.pcap").read_bytes()
         records = records_of(capture)
         kept = [number for number, packet in enumerate(packets) if packet not in gone]
+        parameters = (folder / "run.toml").read_text()
         (folder / "run.pcap").write_bytes(capture[:HEADER] + b"".join(records[number] for number in kept))
+        (folder / "run.toml").write_text(moved_window(parameters, kept))
         answer = explained(self.program, folder, "--suppose", str(len(gone)))
         (folder / "run.pcap").write_bytes(capture)
+        (folder / "run.toml").write_text(parameters)
         self.tried += 1
         self.found[self.kinds(answer)] += 1
         if "messages" in answer.get("supposed", {}):
