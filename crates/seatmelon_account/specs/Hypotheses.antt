@@ -1,5 +1,5 @@
 -- What is told of a supposition.
-use Rattle.std.specs.Prelude.{◌≡◌, ℕ, List, true, All, Some}
+use Rattle.std.specs.Prelude.{◌≡◌, ℕ, List, length, true, All, Some}
 use Rattle.std.specs.List.{Contains}
 use Rattle.rasta_pdu.specs.Params.{Parameters}
 use Rattle.seatmelon_reading.specs.Tapes.{taped_in}
@@ -8,6 +8,7 @@ use Rattle.seatmelon_suppose.specs.Supposition.{IsSupposition}
 use Rattle.seatmelon_suppose.specs.declared.filling.Listed.{Listed}
 use Rattle.seatmelon_suppose.specs.declared.supposition.Supposition.{Supposition}
 use Rattle.seatmelon_account.specs.declared.hypothesis.Hypothesis.{Hypothesis}
+use Rattle.seatmelon_account.specs.declared.messages.Direction.{Direction}
 use Rattle.seatmelon_account.specs.declared.messages.Message.{Message}
 
 -- a message of this data is listed with this proof
@@ -24,12 +25,17 @@ IsListed listed m = (proof : ℕ) → m.proof ≡ Some proof → IsProofIn liste
 abbrev pub AreListed : List Listed → List Message → Type 0
 AreListed listed messages = All (IsListed listed) messages
 
+-- as many messages of an end are counted as surely taken as are listed, and those that are told so are listed
+pub record IsToldOf (listed : List Listed) (d : Direction) : Type 0 where
+  pub taken : d.taken ≡ length listed
+  pub messages : AreListed listed d.messages.items
+
 -- this is supposed of the packets of a capture, which were kept
 abbrev pub IsSupposed : Parameters → Tape → Supposition → Type 0
 IsSupposed p tape s = (tape.is_kept ≡ true) × IsSupposition p (taped_in tape) s
 
--- the checker has judged each filling, and each message that is told as surely taken is listed under each of them
+-- the checker has judged each filling, and each message that is counted or told as surely taken is one that was answered so
 pub record IsHypothesis (p : Parameters) (tape : Tape) (h : Hypothesis) : Type 0 where
   pub supposed : IsSupposed p tape h.supposition
-  pub client : AreListed h.supposition.client.taken.items h.client.messages.items
-  pub server : AreListed h.supposition.server.taken.items h.server.messages.items
+  pub client : IsToldOf h.supposition.client.taken.items h.client
+  pub server : IsToldOf h.supposition.server.taken.items h.server

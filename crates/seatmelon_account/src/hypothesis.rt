@@ -1,7 +1,7 @@
 //! What is supposed of a refused capture.
 ghost use Rattle.std.specs.Prelude.{◌≡◌, IfErr, IfOk, IfSome, OnOk};
 ghost use Rattle.rasta_pcap.specs.Fault.{no_memory};
-ghost use Rattle.seatmelon_account.specs.Hypotheses.{AreListed, IsHypothesis, IsProofIn, IsSupposed};
+ghost use Rattle.seatmelon_account.specs.Hypotheses.{AreListed, IsHypothesis, IsProofIn, IsSupposed, IsToldOf};
 
 use crate::explained::{Start, start_of};
 use crate::messages::{Direction, Message};
@@ -133,7 +133,7 @@ fn direction<'a>(
     sender: Side,
     messages: &Messages,
 ) -> Result<Direction<'a>, AllocError>
-    ensures { IfOk result (λ d. AreListed messages.now.taken.items d.messages.items) }
+    ensures { IfOk result (IsToldOf messages.now.taken.items) }
 {
     Ok(Direction {
         sender,

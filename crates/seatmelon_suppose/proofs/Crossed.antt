@@ -1,5 +1,5 @@
 -- What crosses together with supposed PDUs, packet by packet.
-use Rattle.std.proofs.Common.{◌≡◌, ◌∙◌, ℕ, zero, suc, ◌+◌, ◌<◌, List, [], ◌∷◌, ◌++◌, append-nil, append_assoc, length, map, filter, get_or, take, Option, Result, Ok, Err, ap, sym, refl, subst, arith}
+use Rattle.std.proofs.Common.{◌≡◌, ◌∙◌, ℕ, suc, ◌+◌, ◌<◌, List, [], ◌∷◌, ◌++◌, append-nil, append_assoc, length, map, filter, get_or, take, Option, Result, Ok, Err, ap, sym, refl, subst, arith}
 use Rattle.std.proofs.lemmas.List.{length-map, length-take-le, map-append, map_push, take_more}
 use Rattle.rasta_check.specs.Capture.Building.{crossed_in}
 use Rattle.std.proofs.lemmas.List.Elements.{filter-append}

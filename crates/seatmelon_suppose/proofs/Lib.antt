@@ -1,4 +1,6 @@
+pub mod Agreement
 pub mod Crossed
 pub mod Judging
 pub mod Listing
+pub mod Shown
 pub mod Under

@@ -1,7 +1,7 @@
 -- What is listed under several fillings.
 use Rattle.std.proofs.Common.{◌≡◌, ◌∙◌, ℕ, ◌+◌, ◌<◌, ◌≤◌, List, [], ◌∷◌, ◌++◌, length, map, get_or, take, Some, ap, sym, subst, le_trans, arith}
 use Rattle.std.specs.Prelude.{All}
-use Rattle.std.proofs.lemmas.List.Elements.{All-append, All-cons, All-weaker}
+use Rattle.std.proofs.lemmas.List.Elements.{All-weaker}
 use Rattle.std.specs.Prelude.{slice_get}
 use Rattle.std.specs.List.{take-map}
 use Rattle.std.proofs.lemmas.List.{length_push, length-map, length-take, map_push, take_more, take-take}
@@ -35,7 +35,7 @@ under-push both listed x d n count within same later under =
     }
 
 -- what is listed under what is listed
-under-length : (new told : List Listed) → IsUnder new told → length new ≤ length told
+pub under-length : (new told : List Listed) → IsUnder new told → length new ≤ length told
 under-length new told under =
     let a : length (map data_of new) ≡ length new = length-map new data_of in
     let b : length (map data_of told) ≡ length told = length-map told data_of in
@@ -57,11 +57,5 @@ module _ (by : Filling → List Listed) where
   abbrev UnderAll : List Listed → List Filling → Type 0
   UnderAll told fillings = All (λ f. IsUnder told (by f)) fillings
 
-  still-all : (told new : List Listed) (fillings : List Filling) → IsUnder new told → UnderAll told fillings → UnderAll new fillings
+  pub still-all : (told new : List Listed) (fillings : List Filling) → IsUnder new told → UnderAll told fillings → UnderAll new fillings
   still-all told new fillings under all = All-weaker (λ f. IsUnder told (by f)) (λ f. IsUnder new (by f)) (λ f h. under-under new told (by f) under h) fillings all
-
-  pub one-more : (told new : List Listed) (fillings : List Filling) (i : ℕ) (f : Filling) → i < length fillings → f ≡ get_or fillings i f
-      → UnderAll told (take i fillings) → IsUnder new told → IsUnder new (by f) → UnderAll new (take (i + 1) fillings)
-  one-more told new fillings i f within is all under next =
-      subst (UnderAll new) (sym (take_more fillings i f within ∙ ap (λ g. take i fillings ++ g ∷ []) (sym is)))
-      (All-append (λ g. IsUnder new (by g)) (take i fillings) (f ∷ []) (still-all told new (take i fillings) under all) (All-cons (λ g. IsUnder new (by g)) f [] next (λ k d h. absurd (omega (arith, h)))))

@@ -1,5 +1,5 @@
 -- What explains a capture together with PDUs that the tap is supposed to have missed.
-use Rattle.std.specs.Prelude.{◌≡◌, ℕ, List, [], ◌++◌, map, filter_map, slice_get, Option, None, Some, Ok}
+use Rattle.std.specs.Prelude.{◌≡◌, ℕ, List, [], ◌++◌, drop, filter_map, slice_get, Option, option_map, unwrap_or, Ok}
 use Rattle.std.specs.List.{cons_option}
 use Rattle.std.specs.Option.{option_and_then}
 use Rattle.rasta_pdu.specs.Params.{Parameters}
@@ -15,32 +15,48 @@ use Rattle.seatmelon_suppose.specs.declared.filling.Judged.{Judged}
 use Rattle.seatmelon_suppose.specs.declared.filling.Listed.{Listed}
 use Rattle.seatmelon_suppose.specs.declared.filling.Lists.{Lists}
 
+-- it was captured there, if at all
+abbrev pub captured : Option ℕ → Option ℕ
+captured o = o
+
 -- where the packet at a place among all that crossed was captured; none of a supposed PDU
 abbrev pub origin_at : List (Option ℕ) → ℕ → Option ℕ
-origin_at origins place = option_and_then (λ (o : Option ℕ). o) (slice_get origins place)
+origin_at origins place = option_and_then captured (slice_get origins place)
 
--- where the data of a message that is listed was captured
-abbrev pub data_captured : List (Option ℕ) → ListedMessage → Option ℕ
-data_captured origins l = origin_at origins l.data_place
+-- where the first one of these was captured; 0 if none was
+abbrev pub first_captured : List (Option ℕ) → ℕ
+first_captured origins = unwrap_or (slice_get (filter_map captured origins) 0) 0
+
+-- where the packet at a place was captured, or else the next one, which stands behind a supposed PDU
+abbrev pub shown_at : List (Option ℕ) → ℕ → ℕ
+shown_at origins place = first_captured (drop place origins)
+
+-- a message that is listed, with the places of its data and its proof; none whose data is supposed
+abbrev pub captured_message : List (Option ℕ) → ListedMessage → Option Listed
+captured_message origins l =
+    option_map (λ (place : ℕ). record { «data» = place; proof = shown_at origins l.proof_place }) (origin_at origins l.data_place)
 
 -- the same of all messages of captured data
-abbrev pub all_captured : List (Option ℕ) → List ListedMessage → List ℕ
-all_captured origins listed = filter_map (data_captured origins) listed
+abbrev pub captured_messages : List (Option ℕ) → List ListedMessage → List Listed
+captured_messages origins listed = filter_map (captured_message origins) listed
 
 abbrev pub data_of : Listed → ℕ
 data_of l = l.data
 
+abbrev pub proof_of : Listed → ℕ
+proof_of l = l.proof
+
 -- a message that was surely taken is added, if its data was captured
 pub record Adds (origins : List (Option ℕ)) (t : Taken) (old new : List Listed) : Type 0 where
-  pub added : map data_of new ≡ map data_of old ++ cons_option (data_captured origins (listed_of t)) []
+  pub added : new ≡ old ++ cons_option (captured_message origins (listed_of t)) []
 
 -- the messages of captured data that the checker's report on what crossed lists; some run sends these packets, and in every run that does
 -- each of these messages had been handed up
 pub record AreLists (k : Crossing) (origins : List (Option ℕ)) (l : Lists) : Type 0 where
   pub report : reports.Explained
   pub headline : Headline k.params k.packets report
-  pub client : map data_of l.client.items ≡ all_captured origins report.server_taken
-  pub server : map data_of l.server.items ≡ all_captured origins report.client_taken
+  pub client : l.client.items ≡ captured_messages origins report.server_taken
+  pub server : l.server.items ≡ captured_messages origins report.client_taken
 
 abbrev pub lists_in : Filling → Lists
 lists_in f = record { client = f.client; server = f.server }

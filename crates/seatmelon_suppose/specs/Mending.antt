@@ -6,7 +6,6 @@ use Rattle.rasta_check.specs.Capture.Building.{crossed_in}
 use Rattle.rasta_check.specs.Capture.Reading.{Crossing, after_packet, and_then, nothing_crossed}
 use Rattle.seatmelon_reading.specs.Tapes.{NumberedPacket}
 use Rattle.seatmelon_suppose.specs.Spelling.{packet_supposed}
-use Rattle.seatmelon_suppose.specs.declared.mending.Mended.{Mended}
 use Rattle.seatmelon_suppose.specs.declared.mending.Mending.{Mending}
 use Rattle.seatmelon_suppose.specs.declared.supposed.Supposed.{Supposed}
 

@@ -1,7 +1,6 @@
 -- PDUs that the tap is supposed to have missed, as they are spelled.
 use Rattle.std.specs.Prelude.{ℕ, Bool, ◌||◌, List, [], ◌∷◌, take, slice_get, Option, None, Some, Result, Ok, Err, if◌then◌else◌}
 use Rattle.rasta_pcap.specs.declared.fault.Fault.{Fault}
-use Rattle.rasta_udp.specs.Frame.{Packet}
 use Rattle.rasta_pdu.specs.Messages.{payload_of_messages}
 use Rattle.rasta_pdu.specs.Params.{Parameters}
 use Rattle.rasta_pdu.specs.Pdu.{Empty, Messages, RedundancyPdu, SafetyBody, decode_of, is_kind, messages_in, redundancy_bytes}

@@ -90,10 +90,26 @@ fn confirmations(
     }
     add_new(&mut all, confirmed_by(&gap.before))?;
     add_new(&mut all, confirmed_by(&gap.behind))?;
-    if let Some(last) = scene.last {
-        add_new(&mut all, accepting(&last))?;
+    let most = if kind == Kind::RetransmissionRequest {
+        scene.accepted.len()
+    } else {
+        1
+    };
+    for accepted in scene.accepted.iter().take(most) {
+        add_new(&mut all, accepting(accepted))?;
     }
     Ok(all)
+}
+
+// Whether an end that accepted this last may have missed the next PDU of the peer: a later one has crossed.
+fn may_ask(scene: &Scene, confirmed: Confirmed) -> bool {
+    match scene.accepted.first() {
+        Some(last) => {
+            let ahead = last.sn.wrapping_sub(confirmed.cs);
+            ahead > 1 && ahead < 1 << 31
+        }
+        None => false,
+    }
 }
 
 // Whether a PDU of this type can be missing there.
@@ -103,7 +119,7 @@ fn is_possible(gap: &Gap, scene: &Scene, kind: Kind) -> bool {
         Kind::RetransmissionResponse | Kind::RetransmittedData
     );
     match kind {
-        Kind::RetransmittedData => is_in_burst && !scene.units.is_empty(),
+        Kind::RetransmittedData => is_in_burst && !scene.again.is_empty(),
         Kind::RetransmissionResponse => !scene.requests.is_empty(),
         _ => true,
     }
@@ -114,8 +130,8 @@ fn likes(alloc: Global, scene: &Scene, kind: Kind) -> Result<Vec<Option<usize>>,
     let mut likes = Vec::new(alloc);
     match kind {
         Kind::RetransmittedData => {
-            for number in 0..scene.units.len() {
-                likes.push(Some(number))?;
+            for number in &scene.again {
+                likes.push(Some(*number))?;
             }
         }
         Kind::Data => {
@@ -197,6 +213,9 @@ pub fn candidates(
     for like in likes(alloc, scene, kind)? {
         for ts in &times {
             for confirmed in &confirmations {
+                if kind == Kind::RetransmissionRequest && !may_ask(scene, *confirmed) {
+                    continue;
+                }
                 let guess = Guess {
                     kind,
                     ts: *ts,

@@ -1,6 +1,6 @@
 //! What is surely taken under every filling.
-ghost use Rattle.std.specs.Prelude.{◌≡◌, ◌≤◌, All, IfOk};
-ghost use Rattle.seatmelon_suppose.specs.Common.{IsUnder, listed_by};
+ghost use Rattle.std.specs.Prelude.{◌≡◌, ◌≤◌, ◌⊎◌, ◌∷◌, IfOk};
+ghost use Rattle.seatmelon_suppose.specs.Common.{IsCommon, IsInBoth, listed_by};
 
 use crate::filling::{Filling, Listed};
 use rasta_pcap::Side;
@@ -21,6 +21,7 @@ fn later(one: Listed, two: Listed) -> Listed
     ensures data { result.data ≡ one.data }
     ensures first { one.proof ≤ result.proof }
     ensures second { two.proof ≤ result.proof }
+    ensures either { (result.proof ≡ one.proof) ⊎ (result.proof ≡ two.proof) }
 {
     Listed {
         data: one.data,
@@ -30,33 +31,44 @@ fn later(one: Listed, two: Listed) -> Listed
 
 // The first messages of both lists, as far as they are the same, each with the later of its proofs.
 fn both(alloc: Global, first: &[Listed], other: &[Listed]) -> Result<Vec<Listed>, AllocError>
-    ensures first { IfOk result (λ both. IsUnder both.items first.now) }
-    ensures other { IfOk result (λ both. IsUnder both.items other.now) }
+    ensures { IfOk result (λ both. IsInBoth first.now other.now both.items) }
 {
     let mut both = Vec::new(alloc);
     for place in 0..first.len().min(other.len()) {
         let one = first[place];
         let two = other[place];
         if one.data != two.data {
-            break;
+            return Ok(both);
         }
         both.push(later(one, two))?;
     }
     Ok(both)
 }
 
-/// The messages of captured data of an end that were surely taken under each of these fillings, each with the latest of its
-/// proofs.
-pub fn common(alloc: Global, fillings: &[Filling], sender: Side) -> Result<Vec<Listed>, AllocError>
-    ensures { IfOk result (λ told. All (λ f. IsUnder told.items (listed_by sender f)) fillings.now) }
+// The same of these fillings, which are one at least.
+fn common_to(
+    alloc: Global,
+    first: &Filling,
+    others: &[Filling],
+    sender: Side,
+) -> Result<Vec<Listed>, AllocError>
+    ensures { IfOk result (λ told. IsCommon sender (first.now ∷ others.now) told.items) }
 {
-    let Some(first) = fillings.first() else {
-        return Ok(Vec::new(alloc));
-    };
-    let first = listed_by(first, sender);
-    let mut told = both(alloc, first, first)?;
-    for filling in fillings {
+    let listed = listed_by(first, sender);
+    let mut told = both(alloc, listed, listed)?;
+    for filling in others {
         told = both(alloc, &told, listed_by(filling, sender))?;
     }
     Ok(told)
+}
+
+/// The first messages of captured data of an end that were surely taken, as far as they are the same under each of these
+/// fillings, each with the latest of its proofs; none without a filling.
+pub fn common(alloc: Global, fillings: &[Filling], sender: Side) -> Result<Vec<Listed>, AllocError>
+    ensures { IfOk result (λ told. IsCommon sender fillings.now told.items) }
+{
+    match fillings.split_first() {
+        Some((first, others)) => common_to(alloc, first, others, sender),
+        None => Ok(Vec::new(alloc)),
+    }
 }

@@ -4,7 +4,7 @@ ghost use Rattle.rasta_pcap.specs.Fault.{no_memory};
 ghost use Rattle.rasta_check.specs.Verdict.Listed.{listed_of};
 ghost use Rattle.rasta_pdu.specs.Params.{Parameters};
 ghost use Rattle.seatmelon_reading.specs.Tapes.{NumberedPacket, taped_as};
-ghost use Rattle.seatmelon_suppose.specs.Filling.{Adds, AreLists, IsFilling, IsJudged, all_captured, data_of, origin_at};
+ghost use Rattle.seatmelon_suppose.specs.Filling.{Adds, AreLists, IsFilling, IsJudged, captured_messages, first_captured, origin_at, shown_at};
 
 use crate::mending::{Mended, mend};
 use crate::supposed::Supposed;
@@ -63,10 +63,24 @@ pub fn origin_at(origins: &[Option<usize>], place: u32) -> Option<usize>
     *origins.get(place as usize)?
 }
 
-/// Where the packet at a place was captured, or else the next captured one.
-pub fn shown_at(origins: &[Option<usize>], place: u32) -> usize {
-    let behind = origins.iter().skip(place as usize);
-    behind.flatten().copied().next().unwrap_or(0)
+// The first of these places; 0 where there is none.
+fn first_captured(origins: &[Option<usize>]) -> usize
+    ensures { result ≡ first_captured origins.now }
+{
+    for origin in origins {
+        if let Some(place) = origin {
+            return *place;
+        }
+    }
+    0
+}
+
+/// Where the packet at a place was captured, or else the next captured one; 0 where none is behind it.
+pub fn shown_at(origins: &[Option<usize>], place: u32) -> usize
+    ensures { result ≡ shown_at origins.now place }
+{
+    let passed = origins.len().min(place as usize);
+    first_captured(&origins[passed..])
 }
 
 // Adds a message that was surely taken, if its data was captured.
@@ -90,7 +104,7 @@ fn captured_among(
     origins: &[Option<usize>],
     taken: &[Taken<'_>],
 ) -> Result<Vec<Listed>, AllocError>
-    ensures { IfOk result (λ listed. map data_of listed.items ≡ all_captured origins.now (map listed_of taken.now)) }
+    ensures { IfOk result (λ listed. listed.items ≡ captured_messages origins.now (map listed_of taken.now)) }
 {
     let mut listed = Vec::new(alloc);
     for one in taken {

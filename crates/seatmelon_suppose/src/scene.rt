@@ -5,7 +5,7 @@ use crate::mending::Mended;
 use crate::supposed::Fields;
 use rasta_check::{SentList, SpanList};
 use rasta_pcap::Side;
-use rasta_pdu::{Kind, Params, decode};
+use rasta_pdu::{Kind, Params, Pdu, decode};
 use seatmelon_reading::Taped;
 use std::alloc::{AllocError, Global};
 
@@ -14,10 +14,12 @@ const AHEAD: usize = 2000;
 
 const BACK: u32 = 2000;
 
-// How many units, requests and resent units are tried.
+// How many units, requests, resent units and accepted PDUs are tried.
 const MOST_UNITS: usize = 8;
 
 const MOST_REQUESTS: usize = 2;
+
+const MOST_ACCEPTED: usize = 8;
 
 /// A PDU, and the place of its first copy among the captured packets.
 #[derive(Clone, Copy)]
@@ -32,10 +34,11 @@ pub struct Scene {
     /// For each missing PDU the place of the first packet that shows it.
     pub shown: Vec<usize>,
 
-    /// The last PDU of the peer before the first of these.
-    pub last: Option<Fields>,
+    /// The last PDUs of the peer before the first of these, up to the one that the PDU before the gap confirms, the latest
+    /// first.
+    pub accepted: Vec<Fields>,
 
-    /// The last requests of the peer that the PDU before the gap doesn't confirm and the one behind it may, the latest first.
+    /// The last requests of the peer there, the latest first.
     pub requests: Vec<Fields>,
 
     /// A time that the peer confirms, and that no PDU of the sender has: it may be that of a missing one.
@@ -43,6 +46,9 @@ pub struct Scene {
 
     /// The places of the sender's units before the gap, the latest first.
     pub units: Vec<usize>,
+
+    /// The numbers of those of them that may be sent again in the gap, the likeliest first.
+    pub again: Vec<usize>,
 
     /// The places of retransmitted data of the sender behind the gap.
     pub resent: Vec<usize>,
@@ -92,48 +98,61 @@ fn shown_at(gap: &Gap, peers: &[Placed], number: u32) -> usize {
     place
 }
 
-// The same of each missing PDU.
-fn shown_places(alloc: Global, gap: &Gap, peers: &[Placed]) -> Result<Vec<usize>, AllocError> {
+// The same of each missing PDU; the first one crossed no later than the packet that isn't explained without it.
+fn shown_places(
+    alloc: Global,
+    gap: &Gap,
+    peers: &[Placed],
+    unexplained: usize,
+) -> Result<Vec<usize>, AllocError> {
     let mut places = Vec::new(alloc);
-    for number in 0..gap.missing {
+    places.push(shown_at(gap, peers, 0).min(unexplained))?;
+    for number in 1..gap.missing {
         places.push(shown_at(gap, peers, number))?;
     }
     Ok(places)
 }
 
-// The last PDU of the peer before a place.
-fn last_before(origins: &[Option<usize>], peer: &SpanList<'_>, place: usize) -> Option<Fields> {
+// The last PDUs of the peer before a place, up to the one of this SN.
+fn accepted_before(
+    alloc: Global,
+    origins: &[Option<usize>],
+    peer: &SpanList<'_>,
+    place: usize,
+    sn: u32,
+) -> Result<Vec<Fields>, AllocError> {
+    let mut found = Vec::new(alloc);
     let count = peer.len();
     for back in 1..=count.min(BACK) {
-        let (crossed_at, pdu) = peer.get(count.checked_sub(back)?)?;
-        if let Some(at) = origin_at(origins, crossed_at) {
-            if at < place {
-                return Some(fields_of(&pdu));
-            }
+        let Some((crossed_at, pdu)) = peer.get(count - back) else {
+            break;
+        };
+        if origin_at(origins, crossed_at).is_some_and(|at| at < place) {
+            found.push(fields_of(&pdu))?;
+        }
+        if pdu.sn() == sn || found.len() >= MOST_ACCEPTED {
+            break;
         }
     }
-    None
+    Ok(found)
 }
 
 // The requests of the peer before a place that a PDU in the gap may answer.
 fn requests_before(
     alloc: Global,
-    gap: &Gap,
     origins: &[Option<usize>],
     peer: &SpanList<'_>,
     place: usize,
 ) -> Result<Vec<Fields>, AllocError> {
     let mut found = Vec::new(alloc);
     let count = peer.len();
-    let most = ahead_by(gap.behind.cs, gap.before.cs);
     for back in 1..=count.min(BACK) {
         let Some((crossed_at, pdu)) = peer.get(count - back) else {
             break;
         };
         let fields = fields_of(&pdu);
         let is_before = origin_at(origins, crossed_at).is_some_and(|at| at < place);
-        let is_asked = fields.kind == Kind::RetransmissionRequest;
-        if is_before && is_asked && ahead_by(fields.sn, gap.before.cs) <= most {
+        if is_before && fields.kind == Kind::RetransmissionRequest {
             found.push(fields)?;
         }
         if found.len() >= MOST_REQUESTS {
@@ -226,34 +245,87 @@ fn units_before(
                 units.push(place)?;
             }
         }
-        if units.len() >= MOST_UNITS {
-            break;
-        }
     }
     Ok(units)
 }
 
-/// What crosses around a gap, where so much crossed before it.
+// Whether a PDU sends these data again.
+fn is_again(pdu: &Pdu<'_>, unit: &Pdu<'_>) -> bool {
+    pdu.kind() == Kind::RetransmittedData && pdu.body() == unit.body()
+}
+
+// The PDU of a captured packet.
+fn pdu_at<'a>(params: &Params, packets: &'a [Taped], place: usize) -> Option<Pdu<'a>> {
+    let taped = packets.get(place)?;
+    decode(params, taped.sender, &taped.datagram).ok()
+}
+
+// Adds the number of a unit that isn't there yet, if there are so many units, and room for it.
+fn add_below(numbers: &mut Vec<usize>, number: usize, count: usize) -> Result<(), AllocError> {
+    if number < count && numbers.len() < MOST_UNITS && !numbers.contains(&number) {
+        numbers.push(number)?;
+    }
+    Ok(())
+}
+
+// The numbers of the units that may be sent again in a gap: the one behind what the PDU before the gap sends again, those
+// before what the PDU behind it does, and the latest ones.
+fn again_in(
+    alloc: Global,
+    params: &Params,
+    packets: &[Taped],
+    gap: &Gap,
+    units: &[usize],
+    last: &Pdu<'_>,
+) -> Result<Vec<usize>, AllocError> {
+    let mut numbers = Vec::new(alloc);
+    let missing = gap.missing as usize;
+    let behind = pdu_at(params, packets, gap.place);
+    for (number, place) in units.iter().enumerate() {
+        let Some(unit) = pdu_at(params, packets, *place) else {
+            continue;
+        };
+        if number > 0 && is_again(last, &unit) {
+            add_below(&mut numbers, number.saturating_sub(1), units.len())?;
+        }
+        if behind.is_some_and(|pdu| is_again(&pdu, &unit)) {
+            add_below(&mut numbers, number.saturating_add(missing), units.len())?;
+        }
+    }
+    for number in 0..MOST_UNITS {
+        add_below(&mut numbers, number, units.len())?;
+    }
+    Ok(numbers)
+}
+
+/// What crosses around a gap, where so much crossed before it, and the packet at a place isn't explained.
 pub fn scene_of(
     alloc: Global,
     params: &Params,
     packets: &[Taped],
     mended: &Mended,
     gap: &Gap,
+    unexplained: usize,
 ) -> Result<Scene, AllocError> {
     let Mended { store, origins, .. } = mended;
     let peer = list_of(store, gap.sender.other());
     let own = list_of(store, gap.sender);
     let peers = peers_between(alloc, gap, origins, &peer)?;
     let ahead = look_ahead(alloc, params, packets, gap)?;
-    let shown = shown_places(alloc, gap, &peers)?;
+    let shown = shown_places(alloc, gap, &peers, unexplained)?;
     let place = shown.first().copied().unwrap_or(gap.place);
+    let units = units_before(alloc, origins, &own)?;
+    let again = match own.len().checked_sub(1).and_then(|last| own.get(last)) {
+        Some((_, last)) => again_in(alloc, params, packets, gap, &units, &last)?,
+        None => Vec::new(alloc),
+    };
     Ok(Scene {
         shown,
-        last: last_before(origins, &peer, place),
-        requests: requests_before(alloc, gap, origins, &peer, place)?,
+        accepted: accepted_before(alloc, origins, &peer, place, gap.before.cs)?,
+        requests: requests_before(alloc, origins, &peer, place)?,
         echo: echo_of(gap, &own, &peers, &ahead),
-        units: units_before(alloc, origins, &own)?,
+        units,
+        again,
         resent: ahead.resent,
     })
 }

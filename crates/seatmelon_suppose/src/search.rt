@@ -205,7 +205,7 @@ impl Search<'_> {
     }
 
     // Fills the next gap behind what is chosen, in which at most so many PDUs may be missing, where packets are explained up
-    // to the first one that shows it; none where there is no such gap.
+    // to the PDU before it; none where there is no such gap.
     fn fill(
         self,
         chosen: &[Supposed],
@@ -216,13 +216,35 @@ impl Search<'_> {
         let Some(gap) = gap_at(self.params, self.packets, mended, most) else {
             return Ok(None);
         };
-        let scene = scene_of(self.alloc, self.params, self.packets, mended, &gap)?;
-        let is_shown = scene.shown.iter().any(|place| *place <= reach.place);
-        if !reach.is_open() && !is_shown {
+        if reach.place <= shown_at(&mended.origins, gap.crossed_at) {
             return Ok(None);
         }
+        let scene = scene_of(
+            self.alloc,
+            self.params,
+            self.packets,
+            mended,
+            &gap,
+            reach.place,
+        )?;
         let tried = self.try_all(chosen, &scene, &gap)?;
         Ok(Some(Filled { gap, tried }))
+    }
+
+    // Tells how far packets are explained with what is found so far, and fills the next gap; whether there may be one more.
+    fn fill_next(self, found: &mut Found, most: u32) -> Result<bool, Fault> {
+        let (mended, reach) = self.reach_below(&found.pdus, self.packets.len())?;
+        found.reach = reach.place;
+        found.stop = reach.fault;
+        let left = u32::try_from(found.pdus.len()).map_or(0, |chosen| most.saturating_sub(chosen));
+        let Some(filled) = self.fill(&found.pdus, &mended, reach, left)? else {
+            return Ok(false);
+        };
+        let is_chosen = choose(&mut found.pdus, &filled)?;
+        match found.gaps.push(filled) {
+            Ok(()) => Ok(is_chosen),
+            Err(error) => Err(AllocError::from(error).into()),
+        }
     }
 }
 
@@ -249,31 +271,16 @@ pub fn look_for(
         params,
         packets,
     };
-    let mut gaps = Vec::new(alloc);
-    let mut pdus: Vec<Supposed> = Vec::new(alloc);
-    let mut place = 0;
-    let mut stop = None;
+    let mut found = Found {
+        gaps: Vec::new(alloc),
+        pdus: Vec::new(alloc),
+        reach: 0,
+        stop: None,
+    };
     for _ in 0..=most {
-        let (mended, reach) = search.reach_below(&pdus, packets.len())?;
-        place = reach.place;
-        stop = reach.fault;
-        let left = u32::try_from(pdus.len()).map_or(0, |chosen| most.saturating_sub(chosen));
-        let Some(filled) = search.fill(&pdus, &mended, reach, left)? else {
-            break;
-        };
-        let is_chosen = choose(&mut pdus, &filled)?;
-        match gaps.push(filled) {
-            Ok(()) => {}
-            Err(error) => return Err(AllocError::from(error).into()),
-        }
-        if !is_chosen {
+        if !search.fill_next(&mut found, most)? {
             break;
         }
     }
-    Ok(Found {
-        gaps,
-        pdus,
-        reach: place,
-        stop,
-    })
+    Ok(found)
 }

@@ -1,7 +1,8 @@
 //! What is supposed of a capture, as a hypothesis.
-ghost use Rattle.std.specs.Prelude.{◌≡◌, ◌∷◌, ◌++◌, [], All, map, IfErr, IfOk, OnOk};
+ghost use Rattle.std.specs.Prelude.{◌≡◌, ◌∷◌, ◌++◌, [], All, List, map, IfErr, IfOk, OnOk};
 ghost use Rattle.rasta_pcap.specs.Fault.{no_memory};
-ghost use Rattle.seatmelon_reading.specs.Tapes.{taped_as};
+ghost use Rattle.rasta_pdu.specs.Params.{Parameters};
+ghost use Rattle.seatmelon_reading.specs.Tapes.{NumberedPacket, taped_as};
 ghost use Rattle.seatmelon_suppose.specs.Filling.{IsFilling};
 ghost use Rattle.seatmelon_suppose.specs.Supposition.{IsSupposition};
 
@@ -148,9 +149,7 @@ fn sent_by(alloc: Global, judged: &Judged, sender: Side) -> Result<Vec<Option<us
 
 // Of no filling.
 fn unfilled(alloc: Global, found: Found) -> Supposition
-    ensures fillings { result.fillings.items ≡ [] }
-    ensures client { result.client.taken.items ≡ [] }
-    ensures server { result.server.taken.items ≡ [] }
+    ensures { (p : Parameters) (packets : List NumberedPacket) → IsSupposition p packets result }
 {
     let Found {
         gaps,

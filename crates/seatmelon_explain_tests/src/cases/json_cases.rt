@@ -183,12 +183,17 @@ const PARTS: &str = r#"
 "redundancy_number":42,"type":6240,"type_name":"data","sn":502,"cs":101,"ts":9010,"cts":1010}]],
 "gaps":[{"from":"server","missing":1,"before":{"record":5,"time":"1970-01-01 00:00:00.000000 UTC","channel":1},
 "ways":[{"type":6220,"type_name":"heartbeat","explained_before":null},
-{"type":6240,"type_name":"data","explained_before":null},
-{"type":6212,"type_name":"retransmission request",
-"explained_before":{"record":5,"time":"1970-01-01 00:00:00.000000 UTC","channel":1}}]}],
+{"type":6240,"type_name":"data","explained_before":null}]}],
 "premises":["The tap missed exactly the supposed PDUs, as one of these fillings has them.",
 "Whatever else an end sent reached the tap, in the order in which it was sent, and the capture has 
 all of it, in that order."
+== heartbeats plain: 0 1 2 3 5 18 |  | suppose=1 | plain |  | Behind the gap the server asks for what nobody sent.
+"supposed":{"fillings":[],
+"gaps":[{"from":"server","missing":1,"before":{"record":5,"time":"1970-01-01 00:00:00.000000 UTC","channel":1},
+"ways":[{"type":6220,"type_name":"heartbeat",
+"explained_before":{"record":6,"time":"1970-01-01 00:00:00.000000 UTC","channel":1}},
+{"type":6240,"type_name":"data",
+"explained_before":{"record":6,"time":"1970-01-01 00:00:00.000000 UTC","channel":1}}]}]}
 "#;
 
 /// Cases with a part of their JSON, of each kind.

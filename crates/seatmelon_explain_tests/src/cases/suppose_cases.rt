@@ -17,6 +17,24 @@ explained with 1 supposed PDU, as a hypothesis: if the tap missed what follows, 
     6213, retransmission response: CS 501, TS 1030, CTS 9060
 client to server: 2 of 2 captured messages surely taken
 server to client: 0 of 0 captured messages surely taken
+== lost plain: 0 1 2 3 5 6 7 8 9 10 |  | suppose=1 | plain |  | Data are missing that the other end missed something before.
+explained with 1 supposed PDU, as a hypothesis: if the tap missed what follows, the rules can explain all packets
+  from the client, redundancy number 10, SN 103, just before record 5, 1970-01-01 00:00:00.000000 UTC, channel 1
+    6240, data, its messages not known: CS 500, TS 1020, CTS 9000
+client to server: 1 of 1 captured messages surely taken
+server to client: 0 of 0 captured messages surely taken
+== lost plain: 0 1 2 3 4 6 7 8 9 10 |  | suppose=1 | plain |  | A request is missing.
+explained with 1 supposed PDU, as a hypothesis: if the tap missed what follows, the rules can explain all packets
+  from the server, redundancy number 41, SN 501, just before record 6, 1970-01-01 00:00:00.000000 UTC, channel 1
+    6212, retransmission request: CS 101, TS 9060, CTS 1010
+client to server: 2 of 2 captured messages surely taken
+server to client: 0 of 0 captured messages surely taken
+== crossed plain: 0 1 2 3 4 5 6 7 8 10 11 12 13 14 15 16 |  | suppose=1 | plain |  | The response to a request is missing that wasn't in sequence.
+explained with 1 supposed PDU, as a hypothesis: if the tap missed what follows, the rules can explain all packets
+  from the client, redundancy number 12, SN 105, just before record 10, 1970-01-01 00:00:00.000000 UTC, channel 1
+    6213, retransmission response: CS 500, TS 1040, CTS 9000
+client to server: 2 of 2 captured messages surely taken
+server to client: 2 of 2 captured messages surely taken
 == heartbeats plain: 0 1 2 3 6 |  | suppose=2 | plain |  | Two PDUs are missing together.
 explained with 2 supposed PDUs, as a hypothesis: if the tap missed what follows, the rules can explain all packets
   from the server, redundancy number 42, SN 502, just before record 5, 1970-01-01 00:00:00.000000 UTC, channel 1
@@ -44,7 +62,6 @@ no filling of the gaps was found with which the rules can explain all packets
   from the server, 1 missing, before record 5, 1970-01-01 00:00:00.000000 UTC, channel 1
     6220, heartbeat: explains all packets before record 6, 1970-01-01 00:00:00.000000 UTC, channel 1
     6240, data: explains all packets before record 6, 1970-01-01 00:00:00.000000 UTC, channel 1
-    6212, retransmission request: explains all packets before record 5, 1970-01-01 00:00:00.000000 UTC, channel 1
 "#;
 
 /// Cases with what is told of PDUs that are supposed.

@@ -1,6 +1,5 @@
-use Rattle.std.proofs.Common.{◌≡◌, Ok, map, take}
+use Rattle.std.proofs.Common.{map, take}
 use Rattle.rasta_check.specs.Capture.Building.{crossed_in}
-use Rattle.rasta_check.specs.Capture.Reading.{nothing_crossed}
 use Rattle.seatmelon_reading.specs.Tapes.{taped_as}
 use Rattle.seatmelon_suppose.specs.Mending.{IsMended}
 use Rattle.seatmelon_suppose.proofs.mending.mend.Given as goal

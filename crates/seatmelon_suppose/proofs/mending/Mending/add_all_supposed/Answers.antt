@@ -1,6 +1,5 @@
-use Rattle.std.proofs.Common.{[], ◌∷◌, arith, map, subst, sym, get_or}
+use Rattle.std.proofs.Common.{arith, map}
 use Rattle.seatmelon_reading.specs.Tapes.{taped_as}
-use Rattle.seatmelon_suppose.specs.Mending.{Takes, no_place, supposed_at}
 use Rattle.seatmelon_suppose.specs.Spelling.{packet_supposed}
 use Rattle.seatmelon_suppose.proofs.Crossed.{takes-more}
 use Rattle.seatmelon_suppose.proofs.mending.Mending.add_all_supposed.Goals as goal
