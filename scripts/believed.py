@@ -6,7 +6,7 @@
 A NAME is a public call, as `rasta_check::check`, one clause of it, as `rasta_check::check.headline`, or a definition,
 as `rasta_check::Headline`. It prints how many definitions of this repository the contract (or the definition) cites,
 directly or through others, with their lines, by crate. Lines are those of definitions, without imports, comments and
-blank lines. A type that the code declares counts with the lines of its declaration, and a type with a model with those
+blank lines; one of more than 120 characters counts as the lines of 120 that it fills. A type that the code declares counts with the lines of its declaration, and a type with a model with those
 of the model, but without its inverse, which is proved to undo the view. What the toolchain defines isn't counted.
 `--list` names each.
 
@@ -26,6 +26,7 @@ OUTSIDE = {"rasta_draws", "rasta_plain", "rasta_rows", "rasta_layer_tests", "ras
     "seatmelon_account", "seatmelon_many", "seatmelon_show", "seatmelon_suppose", "seatmelon_survey", "seatmelon_survey_tests", "seatmelon_tally",
     "seatmelon_telling", "seatmelon_text", "seatmelon_words",
     "seatmelon_workloads"}
+WIDTH = 120
 Definition = namedtuple("Definition", "crate file name text lines")
 
 HEAD = re.compile(r"^(?:(?:abbrev|unfoldable|opaque|pub|infix[lr]? \d+)\s+)*(?:(?:record|data)\s+)?(\S+)(.*)")
@@ -33,6 +34,11 @@ MARKED = re.compile(r"^(?:abbrev|unfoldable|opaque|pub|record|data)\b")
 IMPORT = re.compile(r"use Rattle\.(\w+)\.specs\.([\w.]+?)(?:\.\{([^}]*)\}| as (\w+))?;?$")
 TOKEN = re.compile(r"(?<![\w.◌-])[^\s(){}\[\],;:.λ→×⊎∀≡]+(?:\.[^\s(){}\[\],;:.]+)?")
 TYPE = re.compile(r"^(?:pub(?:\([a-z]+\))? )?(?:enum|struct) (\w+)")
+
+
+def lines_in(lines):
+    """How many lines of at most 120 characters these fill."""
+    return sum(max(1, -(-len(it) // WIDTH)) for it in lines)
 
 
 def without_comments(text, mark):
@@ -136,13 +142,13 @@ class Library:
                 return None
             path, lines = self.types[crate, name]
             text = "\n".join(lines)
-            return Definition(crate, path, name, text, len(lines)), [it for it in self.kinds_in(text) if it != key]
+            return Definition(crate, path, name, text, lines_in(lines)), [it for it in self.kinds_in(text) if it != key]
         if key[0] == "model":
             _, crate, name = key
             path, lines = self.models[crate, name]
             room = source_room(crate, path, "\n".join(lines))
             body = [it for it in without_inverse(lines) if not it.strip().startswith("ghost use")]
-            return Definition(crate, path, f"model of {name}", "\n".join(body), len(body)), self.cited("\n".join(body), room)
+            return Definition(crate, path, f"model of {name}", "\n".join(body), lines_in(body)), self.cited("\n".join(body), room)
         _, crate, module, name = key
         room = self.rooms.get((crate, module))
         if room and name not in room.blocks and name in room.imports:  # a name that the file hands on
@@ -156,7 +162,7 @@ class Library:
             head = line.split("=", 1)[0] if line.startswith(name + " ") and " : " not in line.split("=", 1)[0] else ""
             bound = {it for it in re.findall(r"[^\s(){}]+", head[len(name) :]) if it[0].islower()}
             found += self.cited(line, room, bound)
-        return Definition(crate, module, name, "\n".join(lines), len(lines)), [it for it in found if it != key]
+        return Definition(crate, module, name, "\n".join(lines), lines_in(lines)), [it for it in found if it != key]
 
 
 def without_inverse(lines):

@@ -7,7 +7,7 @@ use Rattle.rasta_pdu.specs.declared.pdu.Pdu.{Pdu}
 use Rattle.rasta_check.proofs.Script.ScriptsOfRuns.{taken_within}
 use Rattle.rasta_check.specs.Capture.Lists.{copy_of}
 use Rattle.rasta_pcap.specs.Fault.{too_many_entries}
-use Rattle.rasta_check.specs.Capture.Reading.{AreSentLists}
+use Rattle.rasta_check.specs.Capture.Crossing.{AreSentLists}
 use Rattle.std.specs.Result.{IfOk, IsErr, IsErrAnd}
 use Rattle.rasta_build.specs.Choices.{sided_copy, fault_of_stuck, IsUnexplained, IsProposalFault}
 use Rattle.rasta_build.specs.Completeness.{IsProposal, IsAnswer}

@@ -2,7 +2,7 @@
 use Rattle.std.proofs.Common.{◌≡◌, ℕ, zero, suc, ◌+◌, ◌^◌, ◌<◌, ◌≤◌, ◌⊎◌, Bool, true, false, List, [], ◌∷◌, length, Option, Some, None, take, refl, ap, sym, ◌∙◌, arith, inl, inr, subst, ⊎_elim}
 use Rattle.rasta_build.proofs.Prelude.{not, ◌&&◌, ◌||◌, ◌==◌, option_map, nat_tests, slice_get_within, Side, Client, Parameters, SafetyPdu, is_kind, Kind, RetransmissionRequest}
 use Rattle.rasta_build.proofs.Prelude.{RetransmissionResponse, DisconnectionRequest, Owed, Phase, Closed, RetrReq, TakeRow, RequestedAhead}
-use Rattle.rasta_build.proofs.Prelude.{RequestedAgain, OweRetransmissionRequest, OweRetransmissionResponse, Why, MakeRow, Made, EndState, ahead_by, first_sn, is_owing, is_closed}
+use Rattle.rasta_build.proofs.Prelude.{RequestedWhileAsking, OweRetransmissionRequest, OweRetransmissionResponse, Why, MakeRow, Made, EndState, ahead_by, first_sn, is_owing, is_closed}
 use Rattle.rasta_build.proofs.Prelude.{is_client, is_start, is_active, is_retr_req, start_of, make_fault, has_ended, is_judged, confirms_last, confirms_a_time, is_past, is_early}
 use Rattle.rasta_build.proofs.Prelude.{is_expired, after_make, effect, take_row, is_ahead, no_test, FirstCopy, passed, Making, made_by, number, Numbered, Built}
 use Rattle.rasta_build.proofs.Prelude.{copy_at, is_before, first_sn_of, wants_trigger, catch_up, made_at, explain, earliest_by}
@@ -11,7 +11,7 @@ use Rattle.rasta_check.proofs.Model.MakeRows.{cs_is, Passed, MadeBy}
 use Rattle.rasta_check.proofs.Model.NamedPositions.{SnIs}
 use Rattle.rasta_check.proofs.Model.InvariantAtMake.{nothing_made}
 use Rattle.rasta_build.specs.Choices.{position_named, has_to_take, is_unanswered}
-use Rattle.rasta_build.specs.Explaining.{and_then, accept_through, take_trigger, take_step_by, make_step}
+use Rattle.rasta_build.specs.Explaining.{then_built, accept_through, take_trigger, take_step_by, make_step}
 use Rattle.rasta_build.proofs.Readiness.{IsReady}
 use Rattle.rasta_build.proofs.Scans.{AreCopies, is_gap, is_request_ahead, gap_found, request_found}
 use Rattle.rasta_build.proofs.Lags.{Pending, IsLag, caught_itself}
@@ -68,7 +68,7 @@ gap_owes p base y row h = grind arith
 
 pub ahead_owes : (p : Parameters) (base : EndState) (y : SafetyPdu) (row : TakeRow) → is_request_ahead row ≡ true → (rest : List Owed) × ((effect p row base y).owed ≡ OweRetransmissionResponse ∷ rest)
 ahead_owes p base y RequestedAhead h = (_, refl)
-ahead_owes p base y RequestedAgain h = (_, refl)
+ahead_owes p base y RequestedWhileAsking h = (_, refl)
 ahead_owes p base y _ h = absurd (cc)
 
 gap_ahead : (p : Parameters) (base : EndState) (y : SafetyPdu) (row : TakeRow) → (is_gap row ≡ true) ⊎ (is_request_ahead row ≡ true) → take_row p base y ≡ Some row → is_ahead p base y ≡ true
@@ -110,7 +110,7 @@ module _ (p : Parameters) (start : Option ℕ) (side : Side) (quiet_sn : Option 
       let m = makes_by p start side quiet_sn e taken ms b2 r' place k x why ok bounded waits from low_start few in
       let again = ready_make p start side quiet_sn e taken ms b2 r' place k x why ok bounded waits from low_start few in (
         made_at place x why m.0 b2,
-        ap (λ (o : Option Built). and_then o (make_step place x)) h ∙ m.1,
+        ap (λ (o : Option Built). then_built o (make_step place x)) h ∙ m.1,
         ⊎_elim
             (λ (c : m.0 ≡ r'.clock + ahead_by x.ts r'.clock). inl (subst (λ c'. IsReady p start side quiet_sn (after_make e x k why) taken ms (made_at place x why c' b2)) (sym c) again))
             (λ (c : is_expired why ≡ true). inr (ended_by p e x k why ok (inl c)))
@@ -122,7 +122,7 @@ module _ (p : Parameters) (start : Option ℕ) (side : Side) (quiet_sn : Option 
       → take_step_by (has_to_take b.side b.end.state x.kind) sent place x b ≡ Some b2 → Explains
   from_leaving b2 g mark r ok' few' d h =
       let m = makes_by p start side quiet_sn g mark ms b2 r place k x why ok' bounded waits from low_start few' in
-      (made_at place x why m.0 b2, ap (λ (o : Option Built). and_then o (make_step place x)) h ∙ m.1, inr (ended_by p e x k why ok (inr d)))
+      (made_at place x why m.0 b2, ap (λ (o : Option Built). then_built o (make_step place x)) h ∙ m.1, inr (ended_by p e x k why ok (inr d)))
 
   all : Passed p e x k why
   all = passed p e x k why (no_test p e x k why ok)
@@ -242,7 +242,7 @@ module _ (p : Parameters) (start : Option ℕ) (side : Side) (quiet_sn : Option 
         (u.0, ap (λ (q : Option ℕ). accept_through sent place b q) named ∙ through sent place c.0 b u.0 h (let l = lag.low in omega (arith, l, to)) front, u.2)
 
     took : (b1 b2 : Built) → accept_through sent place b (position_named b.peer.quiet_sn sent x.cs) ≡ Some b1 → take_trigger sent place x.kind b1 ≡ Some b2 → take_step_by (has_to_take b.side b.end.state x.kind) sent place x b ≡ Some b2
-    took b1 b2 h g = ap (λ (c : Bool). take_step_by c sent place x b) takes ∙ (ap (λ (o : Option Built). and_then o (take_trigger sent place x.kind)) h ∙ g)
+    took b1 b2 h g = ap (λ (c : Bool). take_step_by c sent place x b) takes ∙ (ap (λ (o : Option Built). then_built o (take_trigger sent place x.kind)) h ∙ g)
 
     untried : (b1 : Built) → (is_owing b1.end.state.owed || not (wants_trigger x.kind)) ≡ true → take_trigger sent place x.kind b1 ≡ Some b1
     untried b1 h = rw h refl

@@ -5,7 +5,7 @@ use Rattle.rasta_build.proofs.Prelude.{FirstHeartbeat, InSequence, ResentInSeque
 use Rattle.rasta_build.proofs.Prelude.{steps_past_next, effect, take_row, FirstCopy, row_known, Built, is_trigger, taken_by}
 use Rattle.rasta_build.proofs.Prelude.{take_step, accept_from}
 use Rattle.rasta_check.proofs.Model.TakeRows.{accepted_after}
-use Rattle.rasta_build.specs.Explaining.{accept_step, and_then, try_step, scan}
+use Rattle.rasta_build.specs.Explaining.{accept_step, then_built, try_step, scan}
 use Rattle.rasta_build.proofs.Comparisons.{was_same}
 use Rattle.rasta_build.proofs.Succeeding.{took, accepted, tried}
 
@@ -34,13 +34,13 @@ accept_more sent slot first q b b1 b2 l h k =
     let more : q + 1 - first ≡ suc (q - first) = omega arith in
     let next : first + (q - first) ≡ q = omega arith in
     ap (λ (m : ℕ). accept_from sent slot first m b) more
-    ∙ (ap (λ (o : Option Built). and_then o (accept_step sent slot (first + (q - first)))) h ∙ (ap (λ (m : ℕ). accept_step sent slot m b1) next ∙ k))
+    ∙ (ap (λ (o : Option Built). then_built o (accept_step sent slot (first + (q - first)))) h ∙ (ap (λ (m : ℕ). accept_step sent slot m b1) next ∙ k))
 
 none_more : (sent : List FirstCopy) (slot first n m k : ℕ) (b : Built) → k ≡ m + n → accept_from sent slot first n b ≡ None → accept_from sent slot first k b ≡ None
 none_more sent slot first n zero k b e h = (let z : k ≡ n = omega (arith, e) in rw z h)
 none_more sent slot first n (suc m) k b e h =
     let z : k ≡ suc (m + n) = omega (arith, e) in
-    rw z (ap (λ (o : Option Built). and_then o (accept_step sent slot (first + (m + n)))) (none_more sent slot first n m (m + n) b refl h))
+    rw z (ap (λ (o : Option Built). then_built o (accept_step sent slot (first + (m + n)))) (none_more sent slot first n m (m + n) b refl h))
 
 -- or one isn't, and then no further one
 pub accept_stuck : (sent : List FirstCopy) (slot first bound q : ℕ) (b b1 : Built) → first ≤ q → q < bound → accept_from sent slot first (q - first) b ≡ Some b1 → accept_step sent slot q b1 ≡ None
@@ -48,7 +48,7 @@ pub accept_stuck : (sent : List FirstCopy) (slot first bound q : ℕ) (b b1 : Bu
 accept_stuck sent slot first bound q b b1 l m h k =
     let next : first + (q - first) ≡ q = omega arith in
     none_more sent slot first (suc (q - first)) (bound - suc q) (bound - first) b (omega arith)
-    (ap (λ (o : Option Built). and_then o (accept_step sent slot (first + (q - first)))) h ∙ (ap (λ (j : ℕ). accept_step sent slot j b1) next ∙ k))
+    (ap (λ (o : Option Built). then_built o (accept_step sent slot (first + (q - first)))) h ∙ (ap (λ (j : ℕ). accept_step sent slot j b1) next ∙ k))
 
 -- the search goes on where nothing is owed yet
 scan_steps : (sent : List FirstCopy) (slot : ℕ) (made : Kind) (q bound : ℕ) (b b1 : Built) → q < bound → try_step sent slot made q b ≡ Some b1

@@ -2,7 +2,7 @@
 use Rattle.std.proofs.Common.{◌≡◌, ℕ, zero, suc, ◌+◌, ◌%◌, ◌^◌, ◌≤◌, ◌⊎◌, Bool, true, false, List, [], ◌∷◌, length, Option, Some, None, refl, ap, ◌∙◌, arith, inl, inr, subst, ⊎_elim}
 use Rattle.rasta_build.proofs.Prelude.{nat_lt, not, ◌&&◌, ◌||◌, ◌==◌, slice_get_within, Side, Parameters, SafetyPdu, is_kind, Kind, RetransmissionRequest, RetransmissionResponse}
 use Rattle.rasta_build.proofs.Prelude.{DisconnectionRequest, Owed, OweRetransmissionRequest, OweRetransmissionResponse, Phase, Closed, RetrReq, TakeRow, Gap}
-use Rattle.rasta_build.proofs.Prelude.{GapInRetransmission, RequestedAhead, RequestedAgain, Why, Bye, Expired, MakeRow, Made, EndState, ahead_by, first_sn, is_owing, is_closed}
+use Rattle.rasta_build.proofs.Prelude.{GapInRetransmission, RequestedAhead, RequestedWhileAsking, Why, Bye, Expired, MakeRow, Made, EndState, ahead_by, first_sn, is_owing, is_closed}
 use Rattle.rasta_build.proofs.Prelude.{is_active, is_flowing, wrapped, reason_of, content_of, make_fault, has_ended, row_of, is_judged, confirms_last, confirms_a_time, is_past}
 use Rattle.rasta_build.proofs.Prelude.{is_early, is_expired, after_make, effect, take_row, no_test, FirstCopy, passed, Making, made_by, after_row, row_known}
 use Rattle.rasta_build.proofs.Prelude.{Numbered, Built, copy_at, is_before, wants_trigger, catch_up}
@@ -122,5 +122,5 @@ pub left_by : (p : Parameters) (base : EndState) (x : SafetyPdu) (row : TakeRow)
 left_by p base x Gap is h = (let w = row_known p base x Gap is in record { accepted = refl; last_sn = refl; made = refl; clock = refl; offered = refl; deadline = refl; times = λ c. refl; phase = refl; active = ap is_active w.0; owes = inl ([], refl) })
 left_by p base x GapInRetransmission is h = (let w = row_known p base x GapInRetransmission is in record { accepted = refl; last_sn = refl; made = refl; clock = refl; offered = refl; deadline = refl; times = λ c. refl; phase = refl; active = ap is_active w.0; owes = inl ([], refl) })
 left_by p base x RequestedAhead is h = (let w = row_known p base x RequestedAhead is in record { accepted = refl; last_sn = refl; made = refl; clock = refl; offered = refl; deadline = refl; times = λ c. refl; phase = refl; active = flowing_active base.phase w.0; owes = inr (_, refl) })
-left_by p base x RequestedAgain is h = (let w = row_known p base x RequestedAgain is in record { accepted = refl; last_sn = refl; made = refl; clock = refl; offered = refl; deadline = refl; times = λ c. refl; phase = w.0; active = ap is_active w.0; owes = inr (_, refl) })
+left_by p base x RequestedWhileAsking is h = (let w = row_known p base x RequestedWhileAsking is in record { accepted = refl; last_sn = refl; made = refl; clock = refl; offered = refl; deadline = refl; times = λ c. refl; phase = w.0; active = ap is_active w.0; owes = inr (_, refl) })
 left_by p base x _ is h = ⊎_elim (λ (a : false ≡ true). absurd (cc)) (λ (a : false ≡ true). absurd (cc)) h

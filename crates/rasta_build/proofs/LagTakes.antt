@@ -2,10 +2,10 @@
 use Rattle.std.proofs.Common.{◌≡◌, ℕ, suc, ◌+◌, ◌*◌, ◌<◌, ◌≤◌, ◌⊎◌, Bool, true, false, List, [], length, Option, Some, None, take, refl, ap, sym, ◌∙◌, arith, inl, inr, subst, ⊎_elim}
 use Rattle.rasta_build.proofs.Prelude.{nat_lt, nat_le, if◌then◌else◌, ◌&&◌, ◌==◌, nat_tests, Side, Server, Parameters, SafetyPdu, is_kind, Kind}
 use Rattle.rasta_build.proofs.Prelude.{RetransmissionRequest, RetransmissionResponse, Phase, Start, Up, TakeRow, Opened, Answered, FirstHeartbeat, InSequence}
-use Rattle.rasta_build.proofs.Prelude.{ResentInSequence, Gap, GapInRetransmission, Resumed, Requested, RequestedAhead, RequestedAgain, Disconnected, Made, EndState, is_owing}
+use Rattle.rasta_build.proofs.Prelude.{ResentInSequence, Gap, GapInRetransmission, Resumed, Requested, RequestedAhead, RequestedWhileAsking, Disconnected, Made, EndState, is_owing}
 use Rattle.rasta_build.proofs.Prelude.{is_closed, is_active, is_retr_req, is_flowing, carries_unit, effect, effect_by, after_take, take_row, take_fault, steps_past_next, is_in}
 use Rattle.rasta_build.proofs.Prelude.{is_ahead, accept, enter, hand_up, FirstCopy, row_known, number, Valued, Taken, Built, catch_up}
-use Rattle.rasta_end.specs.TakeRule.{is_heartbeat_or_data}
+use Rattle.rasta_end.specs.State.{is_heartbeat_or_data}
 use Rattle.rasta_check.proofs.Model.NamedPositions.{position_is}
 use Rattle.rasta_check.proofs.Model.ConveyedUnits.{values}
 use Rattle.rasta_check.proofs.Model.OfferedUnits.{conveyed_most}
@@ -171,7 +171,7 @@ module _ (p : Parameters) (e f : EndState) (t u : ℕ) (m : Made) (q : ℕ) (k :
     by_row Resumed is = inl (by_accepting Resumed is (resumed_accepts is))
     by_row Requested is = inl (by_accepting Requested is (requested_accepts is))
     by_row RequestedAhead is = (let w = row_known p e m.pdu RequestedAhead is in inl (by_pending RequestedAhead is (flowing_peer e.side e.phase w.0) w.3 (inr (refl, ap (is_kind RetransmissionRequest) w.1))))
-    by_row RequestedAgain is = (let w = row_known p e m.pdu RequestedAgain is in inl (by_pending RequestedAgain is (ap (has_peer e.side) w.0) w.3 (inr (refl, ap (is_kind RetransmissionRequest) w.1))))
+    by_row RequestedWhileAsking is = (let w = row_known p e m.pdu RequestedWhileAsking is in inl (by_pending RequestedWhileAsking is (ap (has_peer e.side) w.0) w.3 (inr (refl, ap (is_kind RetransmissionRequest) w.1))))
     by_row Disconnected is = (let w = row_known p e m.pdu Disconnected is in inr (refl, w.0))
 
     -- the take by a row keeps the lag, or ends the connection

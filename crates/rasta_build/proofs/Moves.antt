@@ -7,7 +7,7 @@ use Rattle.std.specs.Prelude.{IfSome}
 use Rattle.std.proofs.lemmas.List.{length_push}
 use Rattle.rasta_pdu.specs.Params.{IsQuiet, most_clock}
 use Rattle.rasta_end.proofs.MakeTests.{no_fault}
-use Rattle.rasta_check.specs.Capture.Crossing.{Spells}
+use Rattle.rasta_check.specs.Capture.SentLists.{Spells}
 use Rattle.rasta_check.specs.Model.World.{Move, Moves, makes, repeats, arrives, takes, waits, other_side}
 use Rattle.rasta_check.proofs.Model.TakeRows.{take_made}
 use Rattle.rasta_check.proofs.Model.Invariant.{Held}
@@ -47,8 +47,8 @@ follows_grows p s e taken ms ys sent b h = record {
 pub record Stays (p : Parameters) (s r : Side) (ys : List Packet) (a' b : Station) (own peer big_own big_peer : List FirstCopy) (ba bb : Built) : Type 0 where
   pub sent : IsSent p ys s own
   pub their_sent : IsSent p ys r peer
-  pub mine : FollowsAt p s a'.state a'.taken b.state.made big_peer ba
-  pub theirs : FollowsAt p r b.state b.taken a'.state.made big_own bb
+  pub mine : FollowsAt p s a'.state a'.mark b.state.made big_peer ba
+  pub theirs : FollowsAt p r b.state b.mark a'.state.made big_own bb
 
 -- a PDU was made, and is explained
 pub record MadeOne (p : Parameters) (s r : Side) (xs ys : List Packet) (a' b : Station) (own peer big_own big_peer : List FirstCopy) (ba bb : Built) : Type 0 where
@@ -59,24 +59,24 @@ pub record MadeOne (p : Parameters) (s r : Side) (xs ys : List Packet) (a' b : S
   pub their_sent : IsSent p ys r peer
   pub built : Built
   pub explained : explain big_peer copy.place copy.pdu.safety ba ≡ Some built
-  pub mine : FollowsAt p s a'.state a'.taken b.state.made big_peer built
-  pub theirs : FollowsAt p r b.state b.taken a'.state.made big_own bb
+  pub mine : FollowsAt p s a'.state a'.mark b.state.made big_peer built
+  pub theirs : FollowsAt p r b.state b.mark a'.state.made big_own bb
 
 -- what is known of two stations
 pub record Stands (p : Parameters) (s r : Side) (xs : List Packet) (a b : Station) (own peer : List FirstCopy) : Type 0 where
   pub sends : Sends p s xs own a.state a.first_number
   pub their_sends : Sends p r xs peer b.state b.first_number
   pub clock : a.state.clock ≤ a.clock
-  pub based : base p ≤ a.taken
-  pub held : Held a.state a.taken b.state.made
-  pub their_held : Held b.state b.taken a.state.made
+  pub based : base p ≤ a.mark
+  pub held : Held a.state a.mark b.state.made
+  pub their_held : Held b.state b.mark a.state.made
   pub values : Valued a.state
   pub few : length a.state.made ≤ 1000001
   pub their_few : length b.state.made ≤ 1000001
 
 pub moved : (p : Parameters) (s r : Side) (xs ys : List Packet) (a a' b : Station) (own peer big_own big_peer : List FirstCopy) (ba bb : Built) → AreParameters p → r ≡ other_side s → (s ≡ r → ⊥) → {move : Move} → Moves p b xs a move a' ys
     → Stands p s r xs a b own peer → length a'.state.made ≤ 1000001 → Valued a'.state → a'.state.clock < 2 ^ 64 → Begins big_peer peer (length xs)
-    → FollowsAt p s a.state a.taken b.state.made big_peer ba → FollowsAt p r b.state b.taken a.state.made big_own bb
+    → FollowsAt p s a.state a.mark b.state.made big_peer ba → FollowsAt p r b.state b.mark a.state.made big_own bb
     → Stays p s r ys a' b own peer big_own big_peer ba bb ⊎ MadeOne p s r xs ys a' b own peer big_own big_peer ba bb
 moved p s r xs ys a a' b own peer big_own big_peer ba bb valid turned apart (makes x why after channel reserve check bytes mk sp rec) h few' values' bounded begun fa fb =
     let e : EndState = a.state in
@@ -94,7 +94,7 @@ moved p s r xs ys a a' b own peer big_own big_peer ba bb valid turned apart (mak
     let l' : length (after_make e x a.clock why).made ≤ 1000001 = subst (λ (z : EndState). length z.made ≤ 1000001) back few' in
     let th = h.their_held in
     let copies = found_there p s r xs peer big_peer b.state b.first_number h.their_sends begun in
-    let f = follows_make p (start_of p s).deadline s (peer_quiet_sn p.quiet s) (base p) e a.taken b.state.made a.clock x why (no_fault p e x a.clock why mk.0) (omega (arith, now, bounded)) lim.waits_most refl (low_quiet p p.quiet s valid.quiet)
+    let f = follows_make p (start_of p s).deadline s (peer_quiet_sn p.quiet s) (base p) e a.mark b.state.made a.clock x why (no_fault p e x a.clock why mk.0) (omega (arith, now, bounded)) lim.waits_most refl (low_quiet p p.quiet s valid.quiet)
     h.held th.list.numbered h.their_few (offered_few e h.values h.few) (offered_few (after_make e x a.clock why) v' l') big_peer ba (length xs) (length xs) copies (omega arith) (base_small p.quiet)
     (λ l. first_there p s r xs peer big_peer b.state b.first_number turned h.their_sends begun l) fa in
     inr (record {
@@ -105,8 +105,8 @@ moved p s r xs ys a a' b own peer big_own big_peer ba bb valid turned apart (mak
       their_sent = sent_other p xs packet r peer h.their_sends.sent (λ z. apart (sym g.side ∙ z));
       built = f.0;
       explained = f.1;
-      mine = subst (λ (z : EndState). FollowsAt p s z a.taken b.state.made big_peer f.0) (sym back) f.2;
-      theirs = subst (λ (ms : List Made). FollowsAt p r b.state b.taken ms big_own bb) (sym mm.made) (follows_grows p r b.state b.taken e.made (mm.new ∷ []) big_own bb fb);
+      mine = subst (λ (z : EndState). FollowsAt p s z a.mark b.state.made big_peer f.0) (sym back) f.2;
+      theirs = subst (λ (ms : List Made). FollowsAt p r b.state b.mark ms big_own bb) (sym mm.made) (follows_grows p r b.state b.mark e.made (mm.new ∷ []) big_own bb fb);
     })
 moved p s r xs ys a a' b own peer big_own big_peer ba bb valid turned apart (repeats place channel old at sd rec) h few' values' bounded begun fa fb =
     let k : Packet = record old { channel = channel } in
@@ -120,13 +120,13 @@ moved p s r xs ys a a' b own peer big_own big_peer ba bb valid turned apart (rep
 moved p s r xs ys a a' b own peer big_own big_peer ba bb valid turned apart (arrives position low i) h few' values' bounded begun fa fb = inl (record { sent = h.sends.sent; their_sent = h.their_sends.sent; mine = fa; theirs = fb })
 moved p s r xs ys a a' b own peer big_own big_peer ba bb valid turned apart (takes position m after c above there tk) h few' values' bounded begun fa fb =
     let copies = found_there p s r xs peer big_peer b.state b.first_number h.their_sends begun in
-    let k : Taken a.state b.state a.taken b.taken m position = record { mine = h.held; theirs = h.their_held; there = there; above = above; few = h.few; few_theirs = h.their_few } in
-    let f = follows_take p (start_of p s).deadline s (peer_quiet_sn p.quiet s) (base p) a.state b.state a.taken b.taken m position k a.clock h.clock tk.0 h.values big_peer ba (length xs) copies (let z = h.based in omega (arith, z, above)) fa in
+    let k : Taken a.state b.state a.mark b.mark m position = record { mine = h.held; theirs = h.their_held; there = there; above = above; few = h.few; few_theirs = h.their_few } in
+    let f = follows_take p (start_of p s).deadline s (peer_quiet_sn p.quiet s) (base p) a.state b.state a.mark b.mark m position k a.clock h.clock tk.0 h.values big_peer ba (length xs) copies (let z = h.based in omega (arith, z, above)) fa in
     let same : a.state.made ≡ after.made = sym (take_made p a.state m.pdu) ∙ ap (λ (z : EndState). z.made) (sym tk.1) in
     inl (record {
       sent = h.sends.sent;
       their_sent = h.their_sends.sent;
       mine = subst (λ (z : EndState). FollowsAt p s z (suc position) b.state.made big_peer ba) (sym tk.1) f;
-      theirs = subst (λ (ms : List Made). FollowsAt p r b.state b.taken ms big_own bb) same fb;
+      theirs = subst (λ (ms : List Made). FollowsAt p r b.state b.mark ms big_own bb) same fb;
     })
 moved p s r xs ys a a' b own peer big_own big_peer ba bb valid turned apart (waits clock i) h few' values' bounded begun fa fb = inl (record { sent = h.sends.sent; their_sent = h.their_sends.sent; mine = fa; theirs = fb })

@@ -7,7 +7,7 @@ use Rattle.rasta_build.proofs.Prelude.{scripts_of, proposed_by, proposal, all_co
 use Rattle.std.proofs.lemmas.List.{take-append-le, append_assoc, append-nil}
 use native.Mathlib.Decide.{dec_le}
 use Rattle.rasta_pcap.specs.Fault.{too_many_entries}
-use Rattle.rasta_check.specs.Model.World.{World, Move, Moves, makes, repeats, arrives, takes, waits, Step, side_moves, end_of, Reaches, begins, goes_on, first_world, IsWithin}
+use Rattle.rasta_check.specs.Model.World.{World, Move, Moves, makes, repeats, arrives, takes, waits, Step, side_moves, end_of, Reaches, begins, goes_on, first_world, KeepsLimit}
 use Rattle.rasta_check.proofs.Capture.FirstCopies.{sent_once, sent_none}
 use Rattle.rasta_check.proofs.Model.Steps.{start_base}
 use Rattle.rasta_check.proofs.Model.InvariantOfRuns.{all_held, few_made}
@@ -43,7 +43,7 @@ onward p v w (side_moves {a = a} {after = ys} Server m) = (let h = move_on p v.c
 abbrev Clocks : World → Type 0
 Clocks w = (w.client.state.clock < 2 ^ 64) × (w.server.state.clock < 2 ^ 64)
 
-within_before : (p : Parameters) (v w : World) → Step p v w → IsWithin p w → (side : Side) → length (end_of v side).made ≤ (start_of p side).base + 1000000
+within_before : (p : Parameters) (v w : World) → Step p v w → KeepsLimit p w → (side : Side) → length (end_of v side).made ≤ (start_of p side).base + 1000000
 within_before p v w st b side = (let x = ((stepped p v w st).ends side).longer in let y = b side in omega (arith, x, y))
 
 clocks_before : (p : Parameters) (v w : World) → Step p v w → Clocks w → Clocks v
@@ -58,7 +58,7 @@ module _ (p : Parameters) (valid : AreParameters p) (packets : List Packet) (c s
       subst (λ (o : List FirstCopy). Begins big o (length w.crossed)) (sym (sent_once p w.crossed side own r.0 g.sent r.1 (few_list p side w.crossed own a g l))) r.2
 
   -- the pass explains each first copy that crosses
-  pub simulated : (ws : List World) (w : World) (r : Reaches p ws w) (rest : List Packet) → packets ≡ w.crossed ++ rest → IsWithin p w → Clocks w → Keeps p c s (told p valid ws w r).own (told p valid ws w r).peer w
+  pub simulated : (ws : List World) (w : World) (r : Reaches p ws w) (rest : List Packet) → packets ≡ w.crossed ++ rest → KeepsLimit p w → Clocks w → Keeps p c s (told p valid ws w r).own (told p valid ws w r).peer w
   simulated ws w (begins m n) rest e b k =
       let g = told p valid [] (first_world p m n) (begins m n) in
       let few = few_made p (first_world p m n) b in
@@ -91,7 +91,7 @@ module _ (p : Parameters) (valid : AreParameters p) (packets : List Packet) (c s
   few_sent side xs big own a g e l = (let x = sends_count p side xs own a.state a.first_number g in let y = ap length e in let z = start_base p.quiet side in omega (arith, x, y, z, l))
 
   -- a run that sends just these packets is explained as a whole
-  pub explained : (ws : List World) (w : World) → Reaches p ws w → w.crossed ≡ packets → IsWithin p w → Clocks w
+  pub explained : (ws : List World) (w : World) → Reaches p ws w → w.crossed ≡ packets → KeepsLimit p w → Clocks w
       → (t : Pass) × (passes p c s (length c + length s) ≡ Ok t) × (t.made ≡ length c) × (t.answered ≡ length s) × (length c ≤ 1000000) × (length s ≤ 1000000)
   explained ws w r e b k =
       let g = told p valid ws w r in
@@ -114,7 +114,7 @@ take_all [] = refl
 take_all (x ∷ xs) = ap (λ ys. x ∷ ys) (take_all xs)
 
 -- a run passes through each beginning of what it sends
-pub early : (p : Parameters) (ws : List World) (w : World) → Reaches p ws w → IsWithin p w → Clocks w → (n : ℕ) → n ≤ length w.crossed → (us : List World) × (u : World) × Reaches p us u × (u.crossed ≡ take n w.crossed) × IsWithin p u × Clocks u
+pub early : (p : Parameters) (ws : List World) (w : World) → Reaches p ws w → KeepsLimit p w → Clocks w → (n : ℕ) → n ≤ length w.crossed → (us : List World) × (u : World) × Reaches p us u × (u.crossed ≡ take n w.crossed) × KeepsLimit p u × Clocks u
 early p ws w (begins m k) b c n l = ([], first_world p m k, begins m k, none n, b, c)
   where
     none : (n : ℕ) → ◌≡◌ {A = List Packet} [] (take n [])
@@ -233,7 +233,7 @@ take_of_front n w xs ys e l =
 
 module _ (p : Parameters) (valid : AreParameters p) (packets : List Packet) (c s : List FirstCopy) (hc : IsSent p packets Client c) (hs : IsSent p packets Server s) where
   -- the pass doesn't fail at a place below that of a world of a run that sends a beginning of the packets
-  not_failing : (us : List World) (u : World) → Reaches p us u → (rest : List Packet) → packets ≡ u.crossed ++ rest → IsWithin p u → Clocks u → (n place : ℕ) → Fails p c s place n → place < length u.crossed → ⊥
+  not_failing : (us : List World) (u : World) → Reaches p us u → (rest : List Packet) → packets ≡ u.crossed ++ rest → KeepsLimit p u → Clocks u → (n place : ℕ) → Fails p c s place n → place < length u.crossed → ⊥
   not_failing us u r rest e b k n place f l =
       let g = told p valid us u r in
       let few = few_made p u b in

@@ -7,14 +7,14 @@ use Rattle.std.specs.Prelude.{◌↔◌, IfSome}
 use Rattle.rasta_pdu.specs.Params.{IsQuiet}
 use Rattle.rasta_cert.specs.Certificate.{AreEntries, IsEntry}
 use Rattle.rasta_cert.specs.declared.entry.Entry.{Entry}
-use Rattle.rasta_check.specs.Capture.Crossing.{CrossRecorded}
+use Rattle.rasta_check.specs.Capture.SentLists.{CrossRecorded}
 use Rattle.rasta_check.specs.Capture.Faults.{sent_of}
 use Rattle.rasta_check.specs.Model.World.{other_side}
 use Rattle.rasta_check.proofs.Sides.{sided}
 use Rattle.rasta_build.specs.Proposing.{side_goes}
 use Rattle.rasta_check.specs.Model.World.{most_sent}
 use Rattle.rasta_check.specs.Model.Theorem.{most_packets}
-use Rattle.rasta_check.specs.Script.Following.{Cursor, Advances, takes_next, makes_next, Leads, at_start, Follows}
+use Rattle.rasta_check.specs.Script.Following.{ScriptCursor, Advances, takes_next, makes_next, Leads, at_start, Follows}
 use Rattle.rasta_check.proofs.Run.Simulation.{simulated}
 use Rattle.rasta_check.proofs.Theorem.SentRuns.{known}
 use Rattle.rasta_check.proofs.Capture.NextPackets.{cut}
@@ -26,11 +26,11 @@ use Rattle.rasta_build.proofs.Comparisons.{less_is, not_less}
 -- ---- a script over the beginnings of the lists
 
 -- levels rise, and so does what was made
-leads_rise : (p : Parameters) (n : ℕ) (own peer : List FirstCopy) (u v : Cursor) (es : List Entry) → Leads p n own peer u es v → (u.level ≤ v.level) × (u.made ≤ v.made)
-leads_rise p n own peer u v [] f = (let a = ap (λ (z : Cursor). z.level) f in let b = ap (λ (z : Cursor). z.made) f in (omega (arith, a), omega (arith, b)))
+leads_rise : (p : Parameters) (n : ℕ) (own peer : List FirstCopy) (u v : ScriptCursor) (es : List Entry) → Leads p n own peer u es v → (u.level ≤ v.level) × (u.made_count ≤ v.made_count)
+leads_rise p n own peer u v [] f = (let a = ap (λ (z : ScriptCursor). z.level) f in let b = ap (λ (z : ScriptCursor). z.made_count) f in (omega (arith, a), omega (arith, b)))
 leads_rise p n own peer u v (x ∷ es) f = by x f.0 f.1 (leads_rise p n own peer f.0 v es f.2)
   where
-    by : (x : Entry) (m : Cursor) → Advances p n own peer u x m → (m.level ≤ v.level) × (m.made ≤ v.made) → (u.level ≤ v.level) × (u.made ≤ v.made)
+    by : (x : Entry) (m : ScriptCursor) → Advances p n own peer u x m → (m.level ≤ v.level) × (m.made_count ≤ v.made_count) → (u.level ≤ v.level) × (u.made_count ≤ v.made_count)
     by x m (takes_next slot position c e' a b g d f t) l = (let y = l.0 in let z = l.1 in (omega (arith, y, a), omega (arith, z)))
     by x m (makes_next c clock why e' a g k) l = (let y = l.0 in let z = l.1 in (omega (arith, y, a), omega (arith, z)))
 
@@ -45,26 +45,26 @@ in_beginning big own n i c b later g l =
 -- what leads to a level leads there over the beginnings that crossed before it
 module _ (p : Parameters) (n q : ℕ) (own peer mine theirs : List FirstCopy) (bm : Begins own mine q) (bt : Begins peer theirs q)
     (later : (j : ℕ) (d : FirstCopy) → length theirs ≤ j → slice_get peer j ≡ Some d → q ≤ d.place) where
-  leads_cut : (u v : Cursor) (es : List Entry) → Leads p n own peer u es v → v.level ≤ q → v.made ≤ length mine → Leads p q mine theirs u es v
+  leads_cut : (u v : ScriptCursor) (es : List Entry) → Leads p n own peer u es v → v.level ≤ q → v.made_count ≤ length mine → Leads p q mine theirs u es v
   leads_cut u v [] f l m = f
   leads_cut u v (x ∷ es) f l m = (let r = leads_rise p n own peer f.0 v es f.2 in (f.0, by x f.0 f.1 r, leads_cut f.0 v es f.2 l m))
     where
-      by : (x : Entry) (w : Cursor) → Advances p n own peer u x w → (w.level ≤ v.level) × (w.made ≤ v.made) → Advances p q mine theirs u x w
+      by : (x : Entry) (w : ScriptCursor) → Advances p n own peer u x w → (w.level ≤ v.level) × (w.made_count ≤ v.made_count) → Advances p q mine theirs u x w
       by x w (takes_next slot position c e' a b g d f t) r =
           (let r0 = r.0 in takes_next slot position c e' a (omega (arith, r0, l)) (in_beginning peer theirs q position c bt later g (omega (arith, r0, l, d))) d f t)
       by x w (makes_next c clock why e' a g k) r =
           let r1 = r.1 in
-          let f = slice_get_some mine u.made (omega (arith, r1, m)) in
-          let h = begun_get own mine q u.made f.0 bm f.1 in
+          let f = slice_get_some mine u.made_count (omega (arith, r1, m)) in
+          let h = begun_get own mine q u.made_count f.0 bm f.1 in
           let e : f.0 ≡ c = cc in
           makes_next c clock why e' a (f.1 ∙ ap (λ (z : FirstCopy). Some z) e) k
 
 -- the clock stays below 2^64
-leads_clock : (p : Parameters) (n : ℕ) (own peer : List FirstCopy) (u v : Cursor) (es : List Entry) → Leads p n own peer u es v → AreEntries es → u.state.clock < 2 ^ 64 → v.state.clock < 2 ^ 64
-leads_clock p n own peer u v [] f h l = (let a = ap (λ (z : Cursor). z.state.clock) f in omega (arith, a, l))
+leads_clock : (p : Parameters) (n : ℕ) (own peer : List FirstCopy) (u v : ScriptCursor) (es : List Entry) → Leads p n own peer u es v → AreEntries es → u.state.clock < 2 ^ 64 → v.state.clock < 2 ^ 64
+leads_clock p n own peer u v [] f h l = (let a = ap (λ (z : ScriptCursor). z.state.clock) f in omega (arith, a, l))
 leads_clock p n own peer u v (x ∷ es) f h l = leads_clock p n own peer f.0 v es f.2 h.1 (by x f.0 f.1 h.0)
   where
-    by : (x : Entry) (m : Cursor) → Advances p n own peer u x m → IsEntry x → m.state.clock < 2 ^ 64
+    by : (x : Entry) (m : ScriptCursor) → Advances p n own peer u x m → IsEntry x → m.state.clock < 2 ^ 64
     by x m (takes_next slot position c e' a b g d f t) h = (let k = take_leaves p u.state c.pdu.safety in let z : e'.clock ≡ u.state.clock = ap (λ (e : EndState). e.clock) t.1 ∙ k.clock in omega (arith, z, l))
     by x m (makes_next c clock why e' a g k) h = (let z = made_more p u.state c.pdu.safety clock why e' k in let w = z.now in let b = h.1 in omega (arith, w, b))
 

@@ -26,7 +26,7 @@ pub use Rattle.rasta_end.specs.declared.owed.Owed.TheVariants.{RetransmissionReq
 pub use Rattle.rasta_end.specs.declared.phase.Phase.{Phase}
 pub use Rattle.rasta_end.specs.declared.phase.Phase.TheVariants.{Closed, RetrReq, RetrRun, Start, Up}
 pub use Rattle.rasta_end.specs.declared.take_row.TakeRow.{TakeRow}
-pub use Rattle.rasta_end.specs.declared.take_row.TakeRow.TheVariants.{Answered, Disconnected, FirstHeartbeat, Gap, GapInRetransmission, InSequence, Opened, Requested, RequestedAgain, RequestedAhead, ResentInSequence, Resumed}
+pub use Rattle.rasta_end.specs.declared.take_row.TakeRow.TheVariants.{Answered, Disconnected, FirstHeartbeat, Gap, GapInRetransmission, InSequence, Opened, Requested, RequestedWhileAsking, RequestedAhead, ResentInSequence, Resumed}
 pub use Rattle.rasta_end.specs.declared.why.Why.{Why}
 pub use Rattle.rasta_end.specs.declared.why.Why.TheVariants.{Bye, Expired}
 pub use Rattle.rasta_cert.specs.Certificate.{IsCertificate, Scripts, most_entries}
@@ -34,7 +34,7 @@ pub use Rattle.rasta_build.specs.Built.{Built}
 pub use Rattle.rasta_build.specs.Choices.{SidedCopy, copy_at, first_of, first_sn_of, is_before, is_trigger, peer_quiet_sn, wants_trigger}
 pub use Rattle.rasta_build.specs.Clock.{clock_of}
 pub use Rattle.rasta_build.specs.Completeness.{CanCross}
-pub use Rattle.rasta_build.specs.Explaining.{accept_from, catch_up, earliest_by, explain, made_at, take_step, taken_by, unless}
+pub use Rattle.rasta_build.specs.Explaining.{accept_from, catch_up, earliest_by, explain, made_at, take_step, taken_by, built_unless}
 pub use Rattle.rasta_build.specs.Proposing.{Pass, all_copies, client_goes, copy_goes, first_pass, one_more, pass_on, passes, proposal, proposed_by, scripts_of, server_goes}
 pub use Rattle.rasta_build.specs.declared.stuck.Stuck.TheVariants.{Unexplained}
 pub use Rattle.rasta_check.proofs.Capture.FaultlessLists.{IsSent}
@@ -49,7 +49,7 @@ pub use Rattle.rasta_check.proofs.Model.NamedPositions.{Numbered}
 pub use Rattle.rasta_check.proofs.Model.Steps.{base, base_by, base_small, made_more}
 pub use Rattle.rasta_check.proofs.Model.TakeRows.{row_known, take_leaves}
 pub use Rattle.rasta_check.proofs.Script.ScriptsOfRuns.{Sends, sends_count}
-pub use Rattle.rasta_check.specs.Capture.Crossing.{FirstCopy, Sent}
+pub use Rattle.rasta_check.specs.Capture.SentLists.{FirstCopy, Sent}
 pub use Rattle.rasta_check.specs.Model.Theorem.{OfConnection}
 pub use Rattle.rasta_check.specs.Model.World.{Station}
 pub use Rattle.rasta_check.specs.Verdict.Report.{BothFit}

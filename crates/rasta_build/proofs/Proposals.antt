@@ -4,7 +4,7 @@ use Rattle.rasta_build.proofs.Prelude.{nat_lt, if◌then◌else◌, dec_lt, yes,
 use Rattle.rasta_build.proofs.Prelude.{IsSent, to_record, slice_get_some, Built, first_of, Pass, first_pass, one_more, pass_on, passes, copy_goes, client_goes, server_goes}
 use Rattle.rasta_build.proofs.Prelude.{all_copies, proposal, proposed_by, scripts_of}
 use Rattle.rasta_check.proofs.Script.ScriptsOfRuns.{leads_count, taken_within}
-use Rattle.rasta_check.specs.Capture.Reading.{AreSentLists}
+use Rattle.rasta_check.specs.Capture.Crossing.{AreSentLists}
 use Rattle.rasta_check.specs.Capture.Lists.{IsOrdered}
 use Rattle.rasta_check.proofs.Script.Fits.{follows_fits}
 use Rattle.rasta_build.specs.Completeness.{IsProposal}

@@ -2,8 +2,8 @@
 use Rattle.std.proofs.Common.{◌≡◌, ℕ, zero, suc, ◌+◌, ◌-◌, ◌<◌, ◌≤◌, Bool, true, false, List, [], ◌∷◌, ◌++◌, length, Option, Some, None, take, refl, ap, sym, ◌∙◌, arith, subst}
 use Rattle.rasta_build.proofs.Prelude.{nat_lt, if◌then◌else◌, ◌&&◌, ◌==◌, min, nat_tests, Side, Parameters, SafetyPdu, RedundancyPdu, is_kind, Owed, OweRetransmissionResponse}
 use Rattle.rasta_build.proofs.Prelude.{OweRetransmissionRequest, Phase, RetrReq, TakeRow, Opened, Answered, FirstHeartbeat, InSequence, ResentInSequence, Gap}
-use Rattle.rasta_build.proofs.Prelude.{GapInRetransmission, Resumed, Requested, RequestedAhead, RequestedAgain, Disconnected, Made, EndState, is_owing, is_flowing}
-use Rattle.rasta_build.proofs.Prelude.{effect, take_row, take_fault, row_known, number, Built, taken_by, unless, take_step}
+use Rattle.rasta_build.proofs.Prelude.{GapInRetransmission, Resumed, Requested, RequestedAhead, RequestedWhileAsking, Disconnected, Made, EndState, is_owing, is_flowing}
+use Rattle.rasta_build.proofs.Prelude.{effect, take_row, take_fault, row_known, number, Built, taken_by, built_unless, take_step}
 use Rattle.rasta_build.proofs.Prelude.{RetransmissionRequest}
 use Rattle.rasta_pcap.specs.Fault.{reply_owed, past_deadline}
 use Rattle.rasta_end.specs.declared.owed.Owed.TheVariants.{ConnectionResponse as OweConnectionResponse, FirstHeartbeat as OweFirstHeartbeat, Resend as OweResend}
@@ -76,7 +76,7 @@ pub fault_near : (p : Parameters) (start : Option ℕ) (e : EndState) (clock : �
 fault_near p start e clock deadline h g = grind arith
 
 step_is : (f : Bool) (t : Option ℕ) (r : Option TakeRow) (row : Option TakeRow) (slot q : ℕ) (x : RedundancyPdu) (b : Built) → f ≡ false → t ≡ None → r ≡ row
-    → (if f then None else unless t (taken_by r slot q x b)) ≡ Some (taken_by row slot q x b)
+    → (if f then None else built_unless t (taken_by r slot q x b)) ≡ Some (taken_by row slot q x b)
 step_is f t r row slot q x b h k l = rw h (rw k (rw l refl))
 
 -- the builder takes what the run's end takes, by the same row
@@ -126,9 +126,9 @@ trail_row p e x RequestedAhead few free is =
     let w = row_known p e x RequestedAhead is in
     let z : trail_after (progress_of e) (progress_of (effect p RequestedAhead e x)) x ≡ 1 = trail_set (is_kind RetransmissionRequest x.kind) (is_flowing e.phase) _ (ap (is_kind RetransmissionRequest) w.1) (same_as e.accepted) w.0 in
     subst (λ n. IsTrail e.offered n (burst e (position_confirmed e x) ++ OweRetransmissionRequest ∷ [])) (sym z) (trail_more e (position_confirmed e x) (few _))
-trail_row p e x RequestedAgain few free is =
-    let w = row_known p e x RequestedAgain is in
-    let z : trail_after (progress_of e) (progress_of (effect p RequestedAgain e x)) x ≡ 0 = trail_waiting (is_kind RetransmissionRequest x.kind) _ e.phase w.0 in
+trail_row p e x RequestedWhileAsking few free is =
+    let w = row_known p e x RequestedWhileAsking is in
+    let z : trail_after (progress_of e) (progress_of (effect p RequestedWhileAsking e x)) x ≡ 0 = trail_waiting (is_kind RetransmissionRequest x.kind) _ e.phase w.0 in
     subst (λ n. IsTrail e.offered n (burst e (position_confirmed e x))) (sym z) (trail_burst e (position_confirmed e x) (few _))
 trail_row p e x Disconnected few free is = rw free tt
 

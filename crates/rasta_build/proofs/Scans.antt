@@ -2,11 +2,10 @@
 use Rattle.std.proofs.Common.{◌≡◌, ℕ, zero, suc, ◌+◌, ◌<◌, ◌≤◌, ◌⊎◌, Bool, true, false, List, [], ◌∷◌, length, Option, Some, None, slice_get, take, refl, ap, sym, ◌∙◌, arith, inl, inr, subst, ⊎_elim}
 use Rattle.rasta_build.proofs.Prelude.{nat_lt, ◌==◌, nat_tests, slice_get_within, Side, Parameters, SafetyPdu, is_kind, Kind, RetransmissionRequest}
 use Rattle.rasta_build.proofs.Prelude.{RetransmissionResponse, OweRetransmissionRequest, RetrReq, TakeRow}
-use Rattle.rasta_build.proofs.Prelude.{Gap, GapInRetransmission, RequestedAhead, RequestedAgain, Made, EndState, is_owing}
+use Rattle.rasta_build.proofs.Prelude.{Gap, GapInRetransmission, RequestedAhead, RequestedWhileAsking, Made, EndState, is_owing}
 use Rattle.rasta_build.proofs.Prelude.{effect, take_row, take_fault, steps_past_next, is_in, is_ahead, FirstCopy, number, slice_get_some, Built, copy_at, is_trigger}
 use Rattle.rasta_build.proofs.Prelude.{taken_by}
-use Rattle.rasta_end.specs.State.{is_timed}
-use Rattle.rasta_end.specs.TakeRule.{is_heartbeat_or_data}
+use Rattle.rasta_end.specs.State.{is_timed, is_heartbeat_or_data}
 use Rattle.rasta_check.proofs.Model.Counts.{number_take_more, number_take_at}
 use Rattle.rasta_build.specs.Explaining.{try_at, scan, first_tried, take_trigger, positions_tried}
 use Rattle.rasta_build.proofs.Readiness.{IsReady, ConveysNoMore, ready_step, ready_effect}
@@ -56,7 +55,7 @@ is_gap _ = false
 
 abbrev pub is_request_ahead : TakeRow → Bool
 is_request_ahead RequestedAhead = true
-is_request_ahead RequestedAgain = true
+is_request_ahead RequestedWhileAsking = true
 is_request_ahead _ = false
 
 -- a request is owed

@@ -3,7 +3,7 @@ use Rattle.std.proofs.Common.{◌≡◌, ℕ, suc, ◌+◌, ◌^◌, ◌<◌, �
 use Rattle.rasta_build.proofs.Prelude.{Side, Client, Server, Packet, Parameters, AreParameters, FirstCopy, Station, IsSent, Sends, sends_count, Built, SidedCopy, first_of, explain}
 use Rattle.rasta_build.proofs.Prelude.{Pass, one_more, pass_on, passes, copy_goes, client_goes, server_goes, Begins}
 use Rattle.std.proofs.lemmas.List.{length_push}
-use Rattle.rasta_check.specs.Model.World.{World, Step, side_moves, IsWithin}
+use Rattle.rasta_check.specs.Model.World.{World, Step, side_moves, KeepsLimit}
 use Rattle.rasta_check.proofs.Lists.{get_push}
 use Rattle.rasta_check.proofs.Capture.FirstCopies.{sent_once}
 use Rattle.rasta_check.proofs.Model.InvariantOfRuns.{All, few_made}
@@ -17,8 +17,8 @@ pub record Keeps (p : Parameters) (c s own peer : List FirstCopy) (w : World) : 
   pub done : passes p c s (length own + length peer) ≡ Ok pass
   pub made : pass.made ≡ length own
   pub answered : pass.answered ≡ length peer
-  pub client : FollowsAt p Client w.client.state w.client.taken w.server.state.made s pass.own
-  pub server : FollowsAt p Server w.server.state w.server.taken w.client.state.made c pass.other
+  pub client : FollowsAt p Client w.client.state w.client.mark w.server.state.made s pass.own
+  pub server : FollowsAt p Server w.server.state w.server.mark w.client.state.made c pass.other
 
 -- the client's copy is the next
 client_next : (a b : Option FirstCopy) (copy : FirstCopy) → a ≡ Some copy → ((d : FirstCopy) → b ≡ Some d → copy.place < d.place) → first_of a b ≡ Some (record { side = Client; copy = copy })
@@ -40,7 +40,7 @@ pass_more p c s n m t t' e h g = ap (λ k. passes p c s k) e ∙ (ap (λ (r : Re
 
 -- ---- a world and the next
 
-stands_client : (p : Parameters) (w : World) → All w.client w.server → IsWithin p w → (g : Both p Client Server w.crossed w.client w.server) → Stands p Client Server w.crossed w.client w.server g.own g.peer
+stands_client : (p : Parameters) (w : World) → All w.client w.server → KeepsLimit p w → (g : Both p Client Server w.crossed w.client w.server) → Stands p Client Server w.crossed w.client w.server g.own g.peer
 stands_client p w h b g = (let few = few_made p w b in record {
   sends = g.sends;
   their_sends = g.their_sends;
@@ -53,7 +53,7 @@ stands_client p w h b g = (let few = few_made p w b in record {
   their_few = few Server;
 })
 
-stands_server : (p : Parameters) (w : World) → All w.client w.server → IsWithin p w → (g : Both p Client Server w.crossed w.client w.server) → Stands p Server Client w.crossed w.server w.client g.peer g.own
+stands_server : (p : Parameters) (w : World) → All w.client w.server → KeepsLimit p w → (g : Both p Client Server w.crossed w.client w.server) → Stands p Server Client w.crossed w.server w.client g.peer g.own
 stands_server p w h b g = (let few = few_made p w b in record {
   sends = g.their_sends;
   their_sends = g.sends;
@@ -70,7 +70,7 @@ pub few_list : (p : Parameters) (s : Side) (xs : List Packet) (own : List FirstC
 few_list p s xs own w h l = (let c = sends_count p s xs own w.state w.first_number h in omega (arith, c, l))
 
 module _ (p : Parameters) (valid : AreParameters p) (c s : List FirstCopy) (v w : World) (gv : Both p Client Server v.crossed v.client v.server) (gw : Both p Client Server w.crossed w.client w.server)
-    (hv : All v.client v.server) (hw : All w.client w.server) (bv : IsWithin p v) (bw : IsWithin p w) (clocks : (w.client.state.clock < 2 ^ 64) × (w.server.state.clock < 2 ^ 64))
+    (hv : All v.client v.server) (hw : All w.client w.server) (bv : KeepsLimit p v) (bw : KeepsLimit p w) (clocks : (w.client.state.clock < 2 ^ 64) × (w.server.state.clock < 2 ^ 64))
     (cv : Begins c gv.own (length v.crossed)) (sv : Begins s gv.peer (length v.crossed)) (cw : Begins c gw.own (length w.crossed)) (sw : Begins s gw.peer (length w.crossed)) (k : Keeps p c s gv.own gv.peer v) where
   -- where nothing was made, the lists are the same
   same_lists : (own peer : List FirstCopy) → IsSent p w.crossed Client own → IsSent p w.crossed Server peer → (gw.own ≡ own) × (gw.peer ≡ peer)
@@ -107,8 +107,8 @@ module _ (p : Parameters) (valid : AreParameters p) (c s : List FirstCopy) (v w 
         done = pass_more p c s (length gv.own + length gv.peer) (length own + length gv.peer) k.pass (record k.pass { made = suc k.pass.made; own = m.built }) (omega (arith, len)) k.done one;
         made = (let z = k.made in omega (arith, z, len));
         answered = k.answered;
-        client = subst (λ (z : Station). FollowsAt p Client w.client.state w.client.taken z.state.made s m.built) (sym st) m.mine;
-        server = subst (λ (z : Station). FollowsAt p Server z.state z.taken w.client.state.made c k.pass.other) (sym st) m.theirs;
+        client = subst (λ (z : Station). FollowsAt p Client w.client.state w.client.mark z.state.made s m.built) (sym st) m.mine;
+        server = subst (λ (z : Station). FollowsAt p Server z.state z.mark w.client.state.made c k.pass.other) (sym st) m.theirs;
       })
 
   client_stays : (st : w.server ≡ v.server) → Stays p Client Server w.crossed w.client v.server gv.own gv.peer c s k.pass.own k.pass.other → Keeps p c s gw.own gw.peer w
@@ -119,8 +119,8 @@ module _ (p : Parameters) (valid : AreParameters p) (c s : List FirstCopy) (v w 
         done = k.done;
         made = k.made;
         answered = k.answered;
-        client = subst (λ (z : Station). FollowsAt p Client w.client.state w.client.taken z.state.made s k.pass.own) (sym st) m.mine;
-        server = subst (λ (z : Station). FollowsAt p Server z.state z.taken w.client.state.made c k.pass.other) (sym st) m.theirs;
+        client = subst (λ (z : Station). FollowsAt p Client w.client.state w.client.mark z.state.made s k.pass.own) (sym st) m.mine;
+        server = subst (λ (z : Station). FollowsAt p Server z.state z.mark w.client.state.made c k.pass.other) (sym st) m.theirs;
       })
 
   server_made : (st : w.client ≡ v.client) → MadeOne p Server Client v.crossed w.crossed w.server v.client gv.peer gv.own s c k.pass.other k.pass.own → Keeps p c s gw.own gw.peer w
@@ -143,8 +143,8 @@ module _ (p : Parameters) (valid : AreParameters p) (c s : List FirstCopy) (v w 
         done = pass_more p c s (length gv.own + length gv.peer) (length gv.own + length peer) k.pass (record k.pass { answered = suc k.pass.answered; other = m.built }) (omega (arith, len)) k.done one;
         made = k.made;
         answered = (let z = k.answered in omega (arith, z, len));
-        client = subst (λ (z : Station). FollowsAt p Client z.state z.taken w.server.state.made s k.pass.own) (sym st) m.theirs;
-        server = subst (λ (z : Station). FollowsAt p Server w.server.state w.server.taken z.state.made c m.built) (sym st) m.mine;
+        client = subst (λ (z : Station). FollowsAt p Client z.state z.mark w.server.state.made s k.pass.own) (sym st) m.theirs;
+        server = subst (λ (z : Station). FollowsAt p Server w.server.state w.server.mark z.state.made c m.built) (sym st) m.mine;
       })
 
   server_stays : (st : w.client ≡ v.client) → Stays p Server Client w.crossed w.server v.client gv.peer gv.own s c k.pass.other k.pass.own → Keeps p c s gw.own gw.peer w
@@ -155,13 +155,13 @@ module _ (p : Parameters) (valid : AreParameters p) (c s : List FirstCopy) (v w 
         done = k.done;
         made = k.made;
         answered = k.answered;
-        client = subst (λ (z : Station). FollowsAt p Client z.state z.taken w.server.state.made s k.pass.own) (sym st) m.theirs;
-        server = subst (λ (z : Station). FollowsAt p Server w.server.state w.server.taken z.state.made c k.pass.other) (sym st) m.mine;
+        client = subst (λ (z : Station). FollowsAt p Client z.state z.mark w.server.state.made s k.pass.own) (sym st) m.theirs;
+        server = subst (λ (z : Station). FollowsAt p Server w.server.state w.server.mark z.state.made c k.pass.other) (sym st) m.mine;
       })
 
 -- a step keeps it
 pub step_keeps : (p : Parameters) (valid : AreParameters p) (c s : List FirstCopy) (v w : World) → Step p v w → (gv : Both p Client Server v.crossed v.client v.server) (gw : Both p Client Server w.crossed w.client w.server)
-    → All v.client v.server → All w.client w.server → IsWithin p v → IsWithin p w → (w.client.state.clock < 2 ^ 64) × (w.server.state.clock < 2 ^ 64)
+    → All v.client v.server → All w.client w.server → KeepsLimit p v → KeepsLimit p w → (w.client.state.clock < 2 ^ 64) × (w.server.state.clock < 2 ^ 64)
     → Begins c gv.own (length v.crossed) → Begins s gv.peer (length v.crossed) → Begins c gw.own (length w.crossed) → Begins s gw.peer (length w.crossed) → Keeps p c s gv.own gv.peer v → Keeps p c s gw.own gw.peer w
 step_keeps p valid c s v w (side_moves {a = a} {after = ys} Client m) gv gw hv hw bv bw clocks cv sv cw sw k =
     let few = few_made p w bw in

@@ -9,7 +9,7 @@ use Rattle.rasta_cert.specs.Certificate.{IsReason, IsEntry, AreEntries}
 use Rattle.rasta_cert.specs.declared.entry.Entry.{Entry}
 use Rattle.rasta_cert.specs.declared.entry.Entry.TheVariants.{Take, Make}
 use Rattle.rasta_end.specs.declared.why.Why.TheVariants.{Again}
-use Rattle.rasta_check.specs.Script.Following.{Cursor, Advances, takes_next, makes_next, Leads, at_start}
+use Rattle.rasta_check.specs.Script.Following.{ScriptCursor, Advances, takes_next, makes_next, Leads, at_start}
 use Rattle.rasta_check.proofs.Model.Steps.{start_base}
 use Rattle.rasta_build.specs.Proposing
 use Rattle.rasta_check.proofs.Script.ScriptsOfRuns.{leads_more}
@@ -21,10 +21,10 @@ use Rattle.rasta_build.proofs.Succeeding.{kept, if_then, if_else, either, both, 
 
 -- the script leads from the start to the builder's end, which has made so many PDUs; the next entry may stand after this many packets
 pub record IsRead (p : Parameters) (side : Side) (n : ℕ) (own peer : List FirstCopy) (k level : ℕ) (b : Built) : Type 0 where
-  pub at : Cursor
+  pub at : ScriptCursor
   pub leads : Leads p n own peer (at_start (start_of p side)) b.script at
-  pub made : at.made ≡ k
-  pub taken : b.next_take ≡ base p + at.taken
+  pub made : at.made_count ≡ k
+  pub taken : b.next_take ≡ base p + at.passed
   pub low : at.level ≤ level
   pub state : at.state ≡ b.end.state
   pub params : b.end.params ≡ p
@@ -89,7 +89,7 @@ module _ (p : Parameters) (side : Side) (n : ℕ) (own peer : List FirstCopy) (f
           let bs = base_small p.quiet in
           let after : EndState = effect b.end.params row b.end.state c.pdu.safety in
           let eff : after ≡ after_take p r.at.state c.pdu.safety = rw (r.state, sym r.params) (ap (λ (o : Option TakeRow). effect_by b.end.params o b.end.state c.pdu.safety) (sym is)) in
-          let next : Cursor = record { level = slot; made = r.at.made; taken = suc (q - base p); state = after } in
+          let next : ScriptCursor = record { level = slot; made_count = r.at.made_count; passed = suc (q - base p); state = after } in
           let step : Advances p n own peer r.at (Take slot c.pdu.number) next = takes_next slot (q - base p) c after r.low inside m.1 front (omega (arith, r.taken, above, m.0)) (rw (r.state, sym r.params) w.allowed, eff) in
           record {
             at = next;
@@ -171,11 +171,11 @@ module _ (p : Parameters) (side : Side) (n : ℕ) (own peer : List FirstCopy) (f
         let after : EndState = after_make b.end.state c.pdu.safety clock why in
         let ok' : make_fault p r.at.state c.pdu.safety clock why ≡ None = rw (r.state, sym r.params) ok in
         let eff : after ≡ after_make r.at.state c.pdu.safety clock why = rw r.state refl in
-        let step : Advances p n own peer r.at (Make c.place clock why) (record { level = suc c.place; made = suc r.at.made; taken = r.at.taken; state = after }) =
+        let step : Advances p n own peer r.at (Make c.place clock why) (record { level = suc c.place; made_count = suc r.at.made_count; passed = r.at.passed; state = after }) =
         makes_next c clock why after (omega (arith, r.low, here)) (ap (slice_get own) r.made ∙ next) (no_test p r.at.state c.pdu.safety clock why ok', eff) in
         record {
-          at = record { level = suc c.place; made = suc r.at.made; taken = r.at.taken; state = after };
-          leads = subst (λ (pl : ℕ). Leads p n own peer (at_start (start_of p side)) (b.script ++ Make pl clock why ∷ []) (record { level = suc c.place; made = suc r.at.made; taken = r.at.taken; state = after })) here
+          at = record { level = suc c.place; made_count = suc r.at.made_count; passed = r.at.passed; state = after };
+          leads = subst (λ (pl : ℕ). Leads p n own peer (at_start (start_of p side)) (b.script ++ Make pl clock why ∷ []) (record { level = suc c.place; made_count = suc r.at.made_count; passed = r.at.passed; state = after })) here
               (leads_more p n own peer _ r.at _ b.script _ r.leads step);
           made = ap suc r.made;
           taken = r.taken;

@@ -1,8 +1,8 @@
 -- What a step of the builder says that succeeds.
 use Rattle.std.proofs.Common.{◌≡◌, ℕ, suc, ◌<◌, ◌⊎◌, Bool, true, false, List, Option, Some, None, refl, arith, subst, inl, inr}
-use Rattle.rasta_build.proofs.Prelude.{if◌then◌else◌, ◌==◌, ◌||◌, not, nat_lt, is_before, Kind, TakeRow, take_row, take_fault, FirstCopy, Built, copy_at, is_trigger, unless, taken_by, take_step}
+use Rattle.rasta_build.proofs.Prelude.{if◌then◌else◌, ◌==◌, ◌||◌, not, nat_lt, is_before, Kind, TakeRow, take_row, take_fault, FirstCopy, Built, copy_at, is_trigger, built_unless, taken_by, take_step}
 use Rattle.rasta_pdu.specs.Pdu.{RedundancyPdu}
-use Rattle.rasta_build.specs.Explaining.{and_then, if_accepted, accept_there, accept_step, try_at, try_there, try_step, go_on}
+use Rattle.rasta_build.specs.Explaining.{then_built, if_accepted, accept_there, accept_step, try_at, try_there, try_step, go_on}
 use Rattle.rasta_build.proofs.Comparisons.{less_is, was_same}
 
 -- what holds of what was there holds of what is found
@@ -21,7 +21,7 @@ pub either : {A : Type 0} (t : Bool) (x y : Option A) (b : A) → (if t then x e
 either t x y b h = grind arith
 
 -- two steps, one after the other
-pub both : (o : Option Built) (f : Built → Option Built) (b : Built) → and_then o f ≡ Some b → (a : Built) × (o ≡ Some a) × (f a ≡ Some b)
+pub both : (o : Option Built) (f : Built → Option Built) (b : Built) → then_built o f ≡ Some b → (a : Built) × (o ≡ Some a) × (f a ≡ Some b)
 both o f b h = grind arith
 
 -- a search that goes on after its first step, or ends
@@ -45,7 +45,7 @@ took slot q x b b' h =
     let w = if_else (nat_lt q b.next_take) _ b' h in
     by (take_fault b.end.params b.end.state b.end.state.clock) refl w.0 w.1
   where
-    by : (t : Option ℕ) → take_fault b.end.params b.end.state b.end.state.clock ≡ t → nat_lt q b.next_take ≡ false → unless t (taken_by (take_row b.end.params b.end.state x.safety) slot q x b) ≡ Some b' → Took slot q x b b'
+    by : (t : Option ℕ) → take_fault b.end.params b.end.state b.end.state.clock ≡ t → nat_lt q b.next_take ≡ false → built_unless t (taken_by (take_row b.end.params b.end.state x.safety) slot q x b) ≡ Some b' → Took slot q x b b'
     by None a l e = record { late = l; allowed = a; row = take_row b.end.params b.end.state x.safety; is = refl; after = cc }
     by (Some f) a l e = absurd (cc)
 

@@ -1,7 +1,7 @@
 -- What completeness asks of an answer, tried on one that gives up, and on two that name a place.
 use Rattle.std.proofs.Common.{◌≡◌, ℕ, ◌+◌, ◌<◌, ◌≤◌, List, [], length, Err, None, refl, ap, arith}
 use Rattle.rasta_build.proofs.Prelude.{fault_at, no_memory, not_found, Fault, Side, Client, Server, Parameters, Packet, start_of, FirstCopy, Sent, CanCross}
-use Rattle.rasta_check.specs.Capture.Crossing.{CrossRecorded}
+use Rattle.rasta_check.specs.Capture.SentLists.{CrossRecorded}
 use Rattle.rasta_check.specs.Model.Theorem.{most_packets}
 use Rattle.rasta_check.specs.Model.World.{first_world, end_of, begins, most_sent}
 use Rattle.rasta_build.specs.Completeness.{IsBounded, IsComplete}

@@ -13,8 +13,8 @@ use Rattle.rasta_build.specs.declared.peer.Peer.{Peer}
 use Rattle.rasta_build.specs.declared.script_builder.Progress.{Progress}
 use Rattle.rasta_pdu.specs.declared.kind.Kind.TheVariants.{RetransmissionRequest}
 
--- an end with the entries that led it so far, the clock of its last make, the least position that may still be taken, and how many requests
--- are owed after the burst that is owed
+-- an end with the entries that led it so far, the clock of its last make, the least position that may still be taken,
+-- and how many requests are owed after the burst that is owed
 pub record Built : Type 0 where
   pub side : Side
   pub end : JudgedEnd
@@ -50,8 +50,14 @@ progress_of e = record { accepted = e.accepted; owed = length e.owed; phase = e.
 
 -- how many requests are owed after the burst that the take of this PDU started, which led from here to there
 abbrev pub trail_after : Progress → Progress → SafetyPdu → ℕ
-trail_after before after x = if is_kind RetransmissionRequest x.kind && (after.accepted == before.accepted && is_flowing before.phase) then 1 else 0
+trail_after before after x =
+    if is_kind RetransmissionRequest x.kind && (after.accepted == before.accepted && is_flowing before.phase) then 1
+    else 0
 
 -- the take of this PDU at this position stands in the script
 abbrev pub note_take : Progress → ℕ → ℕ → RedundancyPdu → Built → Built
-note_take before slot position x b = note (Take slot x.number) (record b { next_take = min (position + 1) 18446744073709551615; trail = trail_after before (progress_of b.end.state) x.safety })
+note_take before slot position x b =
+    note (Take slot x.number) (record b {
+      next_take = min (position + 1) 18446744073709551615;
+      trail = trail_after before (progress_of b.end.state) x.safety;
+    })

@@ -1,6 +1,7 @@
--- What is chosen for a script: which member of the peer's sent list a position is, what an end must have taken before a make, why it
--- makes a PDU and at which clock.
-use Rattle.std.specs.Prelude.{◌≡◌, ◌⊎◌, ℕ, ◌+◌, ◌-◌, ◌^◌, Bool, true, false, ◌&&◌, not, nat_lt, nat_le, ◌==◌, if◌then◌else◌, min, List, [], ◌∷◌, length, Option, Some, None, option_map, slice_get}
+-- What is chosen for a script: which member of the peer's sent list a position is, what an end must have taken before a
+-- make, why it makes a PDU and at which clock.
+use Rattle.std.specs.Prelude.{◌≡◌, ◌⊎◌, ℕ, ◌+◌, ◌-◌, ◌^◌, Bool, true, false, ◌&&◌, not, nat_lt, nat_le, ◌==◌}
+use Rattle.std.specs.Prelude.{if◌then◌else◌, min, List, [], ◌∷◌, length, Option, Some, None, option_map, slice_get}
 use Rattle.rasta_pcap.specs.Fault.{fault_at, no_memory, not_found}
 use Rattle.rasta_pcap.specs.declared.fault.Fault.{Fault}
 use Rattle.rasta_pcap.specs.declared.fault.Side.{Side}
@@ -8,13 +9,15 @@ use Rattle.rasta_pcap.specs.declared.fault.Side.TheVariants.{Client, Server}
 use Rattle.rasta_pdu.specs.Pdu.{SafetyPdu, is_kind}
 use Rattle.rasta_pdu.specs.declared.pdu.Pdu.{Pdu}
 use Rattle.rasta_pdu.specs.declared.kind.Kind.{Kind}
-use Rattle.rasta_pdu.specs.declared.kind.Kind.TheVariants.{ConnectionRequest, ConnectionResponse, RetransmissionRequest, RetransmissionResponse, DisconnectionRequest, Heartbeat, Data, RetransmittedData}
+use Rattle.rasta_pdu.specs.declared.kind.Kind.TheVariants.{ConnectionRequest, ConnectionResponse, RetransmissionRequest}
+use Rattle.rasta_pdu.specs.declared.kind.Kind.TheVariants.{RetransmissionResponse, DisconnectionRequest, Heartbeat}
+use Rattle.rasta_pdu.specs.declared.kind.Kind.TheVariants.{Data, RetransmittedData}
 use Rattle.rasta_pdu.specs.declared.quiet_point.Quiet.{Quiet}
 use Rattle.rasta_end.specs.State.{EndState, ahead_by, is_owing, is_timed, is_client, is_start, reason_of}
 use Rattle.rasta_end.specs.Starts.{sn_before}
 use Rattle.rasta_end.specs.declared.why.Why.{Why}
 use Rattle.rasta_end.specs.declared.why.Why.TheVariants.{Open, Reply, Beat, Fresh, Again, Ask, Bye, Expired}
-use Rattle.rasta_check.specs.Capture.Crossing.{FirstCopy}
+use Rattle.rasta_check.specs.Capture.SentLists.{FirstCopy}
 use Rattle.rasta_check.specs.Capture.Lists.{copy_of}
 use Rattle.rasta_build.specs.declared.rules.Rule.{Rule}
 use Rattle.rasta_build.specs.declared.stuck.Stuck.{Stuck}
@@ -28,7 +31,8 @@ peer_quiet_sn None side = None
 peer_quiet_sn (Some quiet) Client = Some (sn_before quiet.server.next_sn)
 peer_quiet_sn (Some quiet) Server = Some (sn_before quiet.client.next_sn)
 
--- the member of the peer's sent list at a position: after a quiet point, position 0 is the quiet PDU, and the list begins at 1
+-- the member of the peer's sent list at a position: after a quiet point, position 0 is the quiet PDU, and the list
+-- begins at 1
 abbrev pub member_at : Option ℕ → ℕ → Option ℕ
 member_at None position = Some position
 member_at (Some quiet_sn) position = if position == 0 then None else Some (position - 1)
@@ -79,10 +83,12 @@ wants_trigger _ = false
 abbrev pub is_unanswered : Side → EndState → Bool
 is_unanswered side e = is_client side && (is_start e.phase && e.accepted == 0)
 
--- the next PDU of this side's end tells by its CS what was accepted before it: nothing is owed, it opens no connection, and it isn't the
--- disconnection request of a client that was never answered
+-- the next PDU of this side's end tells by its CS what was accepted before it: nothing is owed, it opens no connection,
+-- and it isn't the disconnection request of a client that was never answered
 abbrev pub has_to_take : Side → EndState → Kind → Bool
-has_to_take side e kind = not (is_owing e.owed) && (not (is_kind ConnectionRequest kind) && not (is_kind DisconnectionRequest kind && is_unanswered side e))
+has_to_take side e kind =
+    not (is_owing e.owed)
+    && (not (is_kind ConnectionRequest kind) && not (is_kind DisconnectionRequest kind && is_unanswered side e))
 
 -- ---- the reason
 
@@ -90,9 +96,11 @@ has_to_take side e kind = not (is_owing e.owed) && (not (is_kind ConnectionReque
 abbrev pub in_32_bits : ℕ → Option ℕ
 in_32_bits n = if nat_lt n (2 ^ 32) then Some n else None
 
--- the unit that is sent again next: all that is owed but what follows the units are units, and they are those offered last
+-- the unit that is sent again next: all that is owed but what follows the units are units, and they are those offered
+-- last
 abbrev pub next_unit : ℕ → ℕ → ℕ → Option ℕ
-next_unit offered owed trail = if nat_le trail owed && nat_le (owed - trail) offered then in_32_bits (offered - (owed - trail)) else None
+next_unit offered owed trail =
+    if nat_le trail owed && nat_le (owed - trail) offered then in_32_bits (offered - (owed - trail)) else None
 
 -- why a disconnection request of this reason is made
 abbrev pub why_ended : ℕ → Why
@@ -112,7 +120,8 @@ why_by RetransmittedData e trail x = option_map Again (next_unit e.offered (leng
 why_by Heartbeat e trail x = Some (why_beating (is_owing e.owed))
 why_by DisconnectionRequest e trail x = Some (why_ended (reason_of x.body))
 
--- why this end makes this PDU, where so many things are owed after the units: by its type, its reason, and whether something is owed
+-- why this end makes this PDU, where so many things are owed after the units: by its type, its reason, and whether
+-- something is owed
 abbrev pub why_of : EndState → ℕ → SafetyPdu → Option Why
 why_of e trail x = why_by x.kind e trail x
 
@@ -132,7 +141,8 @@ abbrev pub first_of : Option FirstCopy → Option FirstCopy → Option SidedCopy
 first_of None None = None
 first_of (Some c) None = Some (record { side = Client; copy = c })
 first_of None (Some s) = Some (record { side = Server; copy = s })
-first_of (Some c) (Some s) = Some (if nat_lt c.place s.place then record { side = Client; copy = c } else record { side = Server; copy = s })
+first_of (Some c) (Some s) =
+    Some (if nat_lt c.place s.place then record { side = Client; copy = c } else record { side = Server; copy = s })
 
 -- ---- why a script can't go on
 
@@ -152,7 +162,8 @@ stuck_by fault = if fault.number == 1 then NoMemory else Unexplained
 
 -- nothing explains a member of this sent list
 abbrev pub IsUnexplained : List FirstCopy → Fault → Type 0
-IsUnexplained sent fault = (i : ℕ) × (copy : FirstCopy) × (slice_get sent i ≡ Some copy) × (fault ≡ fault_of_stuck Unexplained copy.place)
+IsUnexplained sent fault = (i : ℕ) × (copy : FirstCopy) × (slice_get sent i ≡ Some copy)
+    × (fault ≡ fault_of_stuck Unexplained copy.place)
 
 -- a builder's fault: out of memory, or a first copy of the client's or of the server's that nothing explains
 abbrev pub IsProposalFault : List FirstCopy → List FirstCopy → Fault → Type 0

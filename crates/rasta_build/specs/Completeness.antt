@@ -1,4 +1,5 @@
--- When the answer of a builder of scripts is complete: what some run sends is explained, and what isn't explained no run sends.
+-- When the answer of a builder of scripts is complete: what some run sends is explained, and what isn't explained no
+-- run sends.
 use Rattle.std.specs.Prelude.{◌≡◌, ◌⊎◌, ℕ, ◌<◌, ◌≤◌, ◌^◌, ◌↔◌, List, ◌++◌, length, take, Result, Ok, Err}
 use Rattle.rasta_pcap.specs.Fault.{fault_at, no_memory, not_found}
 use Rattle.rasta_pcap.specs.declared.fault.Fault.{Fault}
@@ -6,8 +7,8 @@ use Rattle.rasta_pcap.specs.declared.fault.Side.TheVariants.{Client, Server}
 use Rattle.rasta_udp.specs.Frame.{Packet}
 use Rattle.rasta_pdu.specs.Params.{Parameters}
 use Rattle.rasta_cert.specs.Certificate.{Scripts, IsCertificate}
-use Rattle.rasta_check.specs.Capture.Crossing.{CrossRecorded, FirstCopy, Sent}
-use Rattle.rasta_check.specs.Model.World.{World, Reaches, most_sent, IsWithin}
+use Rattle.rasta_check.specs.Capture.SentLists.{CrossRecorded, FirstCopy, Sent}
+use Rattle.rasta_check.specs.Model.World.{World, Reaches, most_sent, KeepsLimit}
 use Rattle.rasta_check.specs.Verdict.Report.{BothFit}
 use Rattle.rasta_check.specs.Model.Theorem.{most_packets}
 use Rattle.rasta_build.specs.Proposing.{proposal}
@@ -15,7 +16,7 @@ use Rattle.rasta_build.specs.Proposing.{proposal}
 -- a run that leads here is within the limits: of packets, of PDUs an end, and of the clock at each end's last make
 pub record IsBounded (p : Parameters) (w : World) : Type 0 where
   pub packets : length w.crossed ≤ most_packets
-  pub pdus : IsWithin p w
+  pub pdus : KeepsLimit p w
   pub client_clock : w.client.state.clock < 2 ^ 64
   pub server_clock : w.server.state.clock < 2 ^ 64
 
@@ -51,9 +52,12 @@ pub record IsComplete (p : Parameters) (c s : List FirstCopy) (answer : Result S
   pub explains : (packets : List Packet) → Sent p packets Client c → Sent p packets Server s → CanCross p packets
       → IsExplained p (length packets) c s answer
   -- where nothing is found at a place, no run within the limits sends packets that begin with those up to it
-  pub finds_none : (packets rest : List Packet) (place : ℕ) → Sent p packets Client c → Sent p packets Server s → IsNotFound answer place
+  pub finds_none : (packets rest : List Packet) (place : ℕ) → Sent p packets Client c → Sent p packets Server s
+      → IsNotFound answer place
       → CanCross p (take place packets ++ rest) → ⊥
-  -- and the place is exact: some run within the limits sends exactly the first n packets where n is below the place, and none does otherwise
-  pub exact : (packets : List Packet) (place n : ℕ) → CrossRecorded p packets → Sent p packets Client c → Sent p packets Server s
+  -- and the place is exact: some run within the limits sends exactly the first n packets where n is below the place,
+  -- and none does otherwise
+  pub exact : (packets : List Packet) (place n : ℕ) → CrossRecorded p packets → Sent p packets Client c
+      → Sent p packets Server s
       → length packets ≤ most_packets → length c ≤ most_sent → length s ≤ most_sent → IsNotFound answer place
       → CanCross p (take n packets) ↔ n < place

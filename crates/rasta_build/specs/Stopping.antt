@@ -5,7 +5,7 @@ use Rattle.rasta_pcap.specs.declared.fault.Fault.{Fault}
 use Rattle.rasta_pcap.specs.declared.fault.Side.{Side}
 use Rattle.rasta_pcap.specs.declared.fault.Side.TheVariants.{Client, Server}
 use Rattle.rasta_pdu.specs.Params.{Parameters}
-use Rattle.rasta_check.specs.Capture.Crossing.{FirstCopy}
+use Rattle.rasta_check.specs.Capture.SentLists.{FirstCopy}
 use Rattle.rasta_build.specs.declared.obstacles.Obstacle.{Obstacle}
 use Rattle.rasta_build.specs.declared.obstacles.Stop.{Stop}
 use Rattle.rasta_build.specs.declared.obstacles.Stop.TheVariants.{OutOfMemory, Blocked}
@@ -50,8 +50,8 @@ abbrev pub IsStopped : Parameters → List FirstCopy → List FirstCopy → Stop
 IsStopped p c s OutOfMemory = ⊤
 IsStopped p c s (Blocked met) = (passes p c s (all_copies c s) ≡ Err met.place) × IsOfList c s met
 
--- what a walk over the same lists meets: the copy at the place at which nothing is found, with its side; or nothing, where no place is
--- one at which nothing is found
+-- what a walk over the same lists meets: the copy at the place at which nothing is found, with its side; or nothing,
+-- where no place is one at which nothing is found
 abbrev pub IsMet : Parameters → List FirstCopy → List FirstCopy → Option Obstacle → Type 0
 IsMet p c s None = (place : ℕ) → IsNotFound (proposal p c s) place → ⊥
 IsMet p c s (Some met) = (proposal p c s ≡ Err (fault_of_stuck Unexplained met.place)) × IsOfList c s met

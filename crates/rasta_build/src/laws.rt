@@ -2,8 +2,8 @@
 //! the laws.
 ghost use Rattle.std.specs.Prelude.{List, ℕ};
 ghost use Rattle.rasta_pdu.specs.Params.{Parameters};
-ghost use Rattle.rasta_check.specs.Capture.Crossing.{FirstCopy};
-ghost use Rattle.rasta_check.specs.Capture.Reading.{AreSentLists};
+ghost use Rattle.rasta_check.specs.Capture.SentLists.{FirstCopy};
+ghost use Rattle.rasta_check.specs.Capture.Crossing.{AreSentLists};
 ghost use Rattle.rasta_check.specs.Model.Theorem.{OfConnection};
 ghost use Rattle.rasta_build.specs.Completeness.{IsComplete, IsProposal};
 ghost use Rattle.rasta_build.specs.Proposing.{proposal};

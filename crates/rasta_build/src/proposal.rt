@@ -5,7 +5,7 @@ ghost use Rattle.rasta_pcap.specs.declared.fault.Side.TheVariants.{Client, Serve
 ghost use Rattle.rasta_pdu.specs.Pdu.{value_of};
 ghost use Rattle.rasta_cert.specs.Certificate.{IsCertificate};
 ghost use Rattle.rasta_check.specs.Capture.Lists.{copy_of};
-ghost use Rattle.rasta_check.specs.Capture.Reading.{AreSentLists};
+ghost use Rattle.rasta_check.specs.Capture.Crossing.{AreSentLists};
 ghost use Rattle.rasta_check.specs.Verdict.Report.{BothFit};
 ghost use Rattle.rasta_build.specs.Choices;
 ghost use Rattle.rasta_build.specs.Choices.{sided_copy, IsProposalFault};

@@ -8,7 +8,7 @@ use Rattle.rasta_pcap.specs.Fault.{fault_at, no_memory, wrong_syntax}
 use Rattle.rasta_cert.specs.declared.entry.Entry.{Entry}
 use Rattle.rasta_cert.specs.Certificate.{AreEntries, AreScripts, IsCertificate, Scripts, certificate_text, entries_text, entry_line, first_lines, is_few, line, most_entries}
 use Rattle.rasta_cert.specs.Reading.{IsBroken, IsNoLine, IsScript, IsTooLong}
-use Rattle.rasta_cert.specs.Refusals.{BeginsCertificate, BeginsScripts, IsRefused, first_line, lines_of}
+use Rattle.rasta_cert.specs.Refusals.{BeginsCertificate, BeginsScripts, IsRefusedText, first_line, lines_of}
 use Rattle.rasta_cert.proofs.RefusalLemmas.{misspelled, refused}
 use Rattle.rasta_cert.proofs.ScriptLemmas.{Closes, Closes-end, Closes-server, Lines, certificate_text-lines, certificate_text_injective, closed, first_is, follows, longer, not_closed, rest_is}
 use Rattle.rasta_cert.proofs.Texts.{AreEntries_push}
@@ -29,7 +29,7 @@ abbrev no_scripts : Scripts
 no_scripts = record { client = []; server = [] }
 
 -- the first line
-pub refused_at_first : (text : List ℕ) (fault : Fault) → first_line text ≢ head → fault ≡ fault_at wrong_syntax 1 → IsRefused text fault
+pub refused_at_first : (text : List ℕ) (fault : Fault) → first_line text ≢ head → fault ≡ fault_at wrong_syntax 1 → IsRefusedText text fault
 refused_at_first text fault other is =
     misspelled text [] text fault refl
     (record { scripts = no_scripts; entries = (tt, tt); more = lines_of no_scripts; lines_are = refl }, omega arith)
@@ -39,7 +39,7 @@ refused_at_first text fault other is =
 
 -- the second
 pub refused_at_second : (text rest : List ℕ) (fault : Fault) → text ≡ head ++ rest → first_line rest ≢ client → fault ≡ fault_at wrong_syntax 2
-    → IsRefused text fault
+    → IsRefusedText text fault
 refused_at_second text rest fault split other is =
     misspelled text (head ∷ []) rest fault split
     (record { scripts = no_scripts; entries = (tt, tt); more = client ∷ server ∷ ending ∷ []; lines_are = refl }, omega arith)
@@ -131,7 +131,7 @@ concat-append (x ∷ xs) ys = ap (λ (l : List ℕ). x ++ l) (concat-append xs y
 
 -- a fault among the entries of a script
 refused_in_script : (front : Lines) (close : List ℕ) (most : ℕ) (text after : List ℕ) (first : ℕ) (fault : Fault) → Stage front (line close) most
-    → text ≡ concat front ++ after → length front + 1 ≡ first → IsBroken close first most after fault → IsRefused text fault
+    → text ≡ concat front ++ after → length front + 1 ≡ first → IsBroken close first most after fault → IsRefusedText text fault
 refused_in_script front close most text after first fault stage split place broken = elim broken.number [
   | inl long ↦ refused text lines rest fault text_is begins (too_long long.1) not_whole (inl (long.0, with_one_more long.1)) fault_is
   | inr other ↦
@@ -211,14 +211,14 @@ refused_in_script front close most text after first fault stage split place brok
         }
 
 pub refused_in_client : (text one two : List ℕ) (fault : Fault) → text ≡ head ++ one → one ≡ client ++ two
-    → IsBroken (codes "server") 3 most_entries two fault → IsRefused text fault
+    → IsBroken (codes "server") 3 most_entries two fault → IsRefusedText text fault
 refused_in_client text one two fault a b broken =
     refused_in_script (head ∷ client ∷ []) (codes "server") most_entries text two 3 fault Stage-client
     (a ∙ ap (λ (l : List ℕ). head ++ l) b) refl broken
 
 pub refused_in_server : (text one two three : List ℕ) (cs : List Entry) (first most : ℕ) (fault : Fault) → first ≡ 4 + length cs → most ≡ most_entries - length cs
     → text ≡ head ++ one → one ≡ client ++ two → IsScript (codes "server") most_entries two cs three
-    → IsBroken (codes "end") first most three fault → IsRefused text fault
+    → IsBroken (codes "end") first most three fault → IsRefusedText text fault
 refused_in_server text one two three cs first most fault place full a b script broken =
     refused_in_script (server_front cs) (codes "end") most text three first fault
     (subst (λ (n : ℕ). Stage (server_front cs) ending n) (sym full) (Stage-server cs script.valid script.few)) split (count ∙ sym place) broken
@@ -256,7 +256,7 @@ whole_text text one two three rest cs ss most a b s t =
 -- bytes after the last line
 pub refused_after : (text one two three rest : List ℕ) (cs ss : List Entry) (most : ℕ) (fault : Fault) → most ≡ most_entries - length cs
     → text ≡ head ++ one → one ≡ client ++ two → IsScript (codes "server") most_entries two cs three → IsScript (codes "end") most three ss rest
-    → rest ≢ [] → fault ≡ fault_at wrong_syntax (4 + length cs + length ss + 1) → IsRefused text fault
+    → rest ≢ [] → fault ≡ fault_at wrong_syntax (4 + length cs + length ss + 1) → IsRefusedText text fault
 refused_after text one two three rest cs ss most fault full a b s t some is =
     misspelled text (lines_of c) rest fault (whole_text text one two three rest cs ss most a b s t ∙ ap (λ (l : List ℕ). l ++ rest) (certificate_text-lines c))
     (record { scripts = c; entries = (s.valid, t.valid); more = []; lines_are = sym (append-nil (lines_of c)) }, few)
@@ -300,7 +300,7 @@ if_ok (Err e) P G Q h f = tt
 
 -- what was read is the certificate of the text
 pub is_read : (text : List ℕ) (r : Result Scripts Fault) → IfOk r (λ c. (text ≡ certificate_text c) × IsCertificate c)
-    → IfErr r (λ f. (f ≡ no_memory) ⊎ IsRefused text f) → (c : Scripts) → IsCertificate c → text ≡ certificate_text c
+    → IfErr r (λ f. (f ≡ no_memory) ⊎ IsRefusedText text f) → (c : Scripts) → IsCertificate c → text ≡ certificate_text c
     → MatchResult r (λ d. d ≡ c) (λ f. f ≡ no_memory)
 is_read text (Ok d) ok err c h e = certificate_text_injective d c ok.1.0 h.0 (sym ok.0 ∙ e)
 is_read text (Err f) ok err c h e = elim err [ inl none ↦ none | inr r ↦ absurd (r.no_certificate c h e) ]

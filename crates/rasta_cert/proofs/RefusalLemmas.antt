@@ -5,7 +5,7 @@ use Rattle.std.specs.List.{concat}
 use Rattle.rasta_pcap.specs.declared.fault.Fault.{Fault}
 use Rattle.rasta_pcap.specs.Fault.{fault_at, wrong_syntax}
 use Rattle.rasta_cert.specs.Certificate.{AreScripts, IsCertificate, Scripts, certificate_text}
-use Rattle.rasta_cert.specs.Refusals.{BeginsCertificate, BeginsScripts, IsFaultNumber, IsRefused, first_line, lines_of}
+use Rattle.rasta_cert.specs.Refusals.{BeginsCertificate, BeginsScripts, IsFaultNumber, IsRefusedText, first_line, lines_of}
 use Rattle.rasta_cert.proofs.LineLemmas.{AreLines, AreLines-after, AreLines-front, AreLines-lines_of, GoesOn, splits}
 use Rattle.rasta_cert.proofs.ScriptLemmas.{certificate_text-lines}
 
@@ -38,7 +38,7 @@ one_number lines m n (inr a) (inl b) = absurd (a.1 b.1)
 one_number lines m n (inr a) (inr b) = a.0 ∙ sym b.0
 
 -- no text is refused by two faults
-pub one_refusal : (text : List ℕ) (f g : Fault) → IsRefused text f → IsRefused text g → f ≡ g
+pub one_refusal : (text : List ℕ) (f g : Fault) → IsRefusedText text f → IsRefusedText text g → f ≡ g
 one_refusal text f g a b =
     elim (splits a.front b.front a.rest b.rest (begun_lines a.front a.begins.0) (begun_lines b.front b.begins.0) (sym a.text_is ∙ b.text_is)) [
       | inl same ↦
@@ -76,7 +76,7 @@ pub refused : (text : List ℕ) (front : Lines) (rest : List ℕ) (fault : Fault
     → ¬ (BeginsCertificate (front ++ first_line rest ∷ []))
     → (rest ≡ [] → (c : Scripts) → AreScripts c → front ≢ lines_of c)
     → IsFaultNumber (front ++ first_line rest ∷ []) fault.number → fault ≡ fault_at fault.number (length front + 1)
-    → IsRefused text fault
+    → IsRefusedText text fault
 refused text front rest fault e begins stops not_whole number fault_is = record {
   no_certificate = no_certificate text front rest e (begun_lines front begins.0) stops not_whole;
   front = front;
@@ -92,7 +92,7 @@ refused text front rest fault e begins stops not_whole number fault_is = record 
 pub misspelled : (text : List ℕ) (front : Lines) (rest : List ℕ) (fault : Fault) → text ≡ concat front ++ rest → BeginsCertificate front
     → ¬ (BeginsScripts (front ++ first_line rest ∷ []))
     → (rest ≡ [] → (c : Scripts) → AreScripts c → front ≢ lines_of c)
-    → fault ≡ fault_at wrong_syntax (length front + 1) → IsRefused text fault
+    → fault ≡ fault_at wrong_syntax (length front + 1) → IsRefusedText text fault
 misspelled text front rest fault e begins stops not_whole fault_is =
     let number : fault.number ≡ wrong_syntax = ap (λ (f : Fault). f.number) fault_is in
     refused text front rest fault e begins (λ b. stops b.0) not_whole (inr (number, stops))

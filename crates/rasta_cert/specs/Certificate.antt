@@ -56,7 +56,8 @@ why_line Expired = line (codes "expired")
 -- `take SLOT NUMBER` or `make INDEX CLOCK WHY`, in decimal without leading zeros
 unfoldable pub entry_line : Entry → List ℕ
 entry_line (Take slot number) = codes "take" ++ (32 ∷ (decimal slot ++ (32 ∷ line (decimal number))))
-entry_line (Make index clock why) = codes "make" ++ (32 ∷ (decimal index ++ (32 ∷ (decimal clock ++ (32 ∷ why_line why)))))
+entry_line (Make index clock why) =
+    codes "make" ++ (32 ∷ (decimal index ++ (32 ∷ (decimal clock ++ (32 ∷ why_line why)))))
 
 -- a line for each entry
 unfoldable pub entries_text : List Entry → List ℕ

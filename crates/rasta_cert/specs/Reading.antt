@@ -40,5 +40,6 @@ pub record IsBroken (close : List ℕ) (first most : ℕ) (text : List ℕ) (fau
   pub text_is : text ≡ entries_text entries ++ rest
   pub valid : AreEntries entries
   pub few : length entries ≤ most
-  pub number : ((fault.number ≡ too_many_entries) × IsTooLong most entries rest) ⊎ ((fault.number ≡ wrong_syntax) × IsNoLine close rest)
+  pub number : ((fault.number ≡ too_many_entries) × IsTooLong most entries rest)
+      ⊎ ((fault.number ≡ wrong_syntax) × IsNoLine close rest)
   pub fault_is : fault ≡ fault_at fault.number (first + length entries)

@@ -33,7 +33,7 @@ IsFaultNumber lines number =
     ((number ≡ too_many_entries) × BeginsScripts lines) ⊎ ((number ≡ wrong_syntax) × ¬ (BeginsScripts lines))
 
 -- The text is no certificate's, and it is refused at the first line with which no certificate begins.
-pub record IsRefused (text : List ℕ) (fault : Fault) : Type 0 where
+pub record IsRefusedText (text : List ℕ) (fault : Fault) : Type 0 where
   pub no_certificate : (c : Scripts) → IsCertificate c → text ≢ certificate_text c
   pub front : List (List ℕ)
   pub rest : List ℕ

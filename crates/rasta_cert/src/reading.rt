@@ -3,7 +3,7 @@ ghost use Rattle.std.specs.Prelude.{◌≡◌, ◌≢◌, ◌⊎◌, ◌+◌, �
 ghost use Rattle.rasta_pcap.specs.Fault.{fault_at, no_memory, wrong_syntax};
 ghost use Rattle.rasta_cert.specs.Certificate.{IsCertificate, Scripts, certificate_text, line, most_entries};
 ghost use Rattle.rasta_cert.specs.Reading.{BeginsWith, BeginsWithNone, IsBroken, IsScript};
-ghost use Rattle.rasta_cert.specs.Refusals.{IsRefused, first_line};
+ghost use Rattle.rasta_cert.specs.Refusals.{IsRefusedText, first_line};
 
 use crate::certificate::{Certificate, MOST_ENTRIES};
 use crate::entry::Entry;
@@ -80,7 +80,7 @@ fn read_script<'a>(
 // Reads both scripts, and that nothing follows them.
 fn read_scripts(alloc: Global, text: &[u8]) -> Result<Certificate, Fault>
     ensures ok { IfOk result (λ c. (text.now ≡ certificate_text c) × IsCertificate c) }
-    ensures err { IfErr result (λ f. (f ≡ no_memory) ⊎ IsRefused text.now f) }
+    ensures err { IfErr result (λ f. (f ≡ no_memory) ⊎ IsRefusedText text.now f) }
 {
     let Some(rest) = after_line(text, b"rasta-certificate 1") else {
         return Err(Fault::at(Fault::SYNTAX, 1));
@@ -106,7 +106,7 @@ fn read_scripts(alloc: Global, text: &[u8]) -> Result<Certificate, Fault>
 /// Refused by [`Fault::NO_MEMORY`] at place 0.
 pub fn read(alloc: Global, text: &[u8]) -> Result<Certificate, Fault>
     ensures ok { IfOk result (λ c. (text.now ≡ certificate_text c) × IsCertificate c) }
-    ensures err { IfErr result (λ f. (f ≡ no_memory) ⊎ IsRefused text.now f) }
+    ensures err { IfErr result (λ f. (f ≡ no_memory) ⊎ IsRefusedText text.now f) }
     ensures read_back { (c : Scripts) → IsCertificate c → text.now ≡ certificate_text c
         → MatchResult result (λ d. d ≡ c) (λ f. f ≡ no_memory) }
 {

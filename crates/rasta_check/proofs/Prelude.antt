@@ -38,17 +38,19 @@ pub use Rattle.rasta_end.specs.declared.owed.Owed.TheVariants.{ConnectionRespons
 pub use Rattle.rasta_end.specs.declared.phase.Phase.{Phase}
 pub use Rattle.rasta_end.specs.declared.phase.Phase.TheVariants.{Closed, RetrReq, RetrRun, Start, Up}
 pub use Rattle.rasta_end.specs.declared.take_row.TakeRow.{TakeRow}
-pub use Rattle.rasta_end.specs.declared.take_row.TakeRow.TheVariants.{Answered, Disconnected, FirstHeartbeat, Gap, GapInRetransmission, InSequence, Opened, Requested, RequestedAgain, RequestedAhead, ResentInSequence, Resumed}
+pub use Rattle.rasta_end.specs.declared.take_row.TakeRow.TheVariants.{Answered, Disconnected, FirstHeartbeat, Gap, GapInRetransmission, InSequence, Opened, Requested, RequestedWhileAsking, RequestedAhead, ResentInSequence, Resumed}
 pub use Rattle.rasta_end.specs.declared.why.Why.{Why}
 pub use Rattle.rasta_cert.specs.Certificate.{Scripts}
 pub use Rattle.rasta_cert.specs.declared.entry.Entry.{Entry}
 pub use Rattle.rasta_cert.specs.declared.entry.Entry.TheVariants.{Make, Take}
-pub use Rattle.rasta_check.specs.Capture.Crossing.{CrossRecorded, FirstCopy, Sent, Spells, copy_with, crossing_list, is_next_number, packet_fault}
+pub use Rattle.rasta_check.specs.Capture.SentLists.{CrossRecorded, FirstCopy, Sent, Spells, crossing_list}
+pub use Rattle.rasta_check.specs.Capture.PacketFaults.{copy_with, is_next_number, packet_fault}
 pub use Rattle.rasta_check.specs.Capture.Faults.{in_header}
 pub use Rattle.rasta_check.specs.Capture.Lists.{IsOrdered, copy_of, position_of_number, position_of_place}
-pub use Rattle.rasta_check.specs.Capture.Reading.{Crossing, IsCrossing, after_reading, and_then, crossing_of, crossing_with, is_within, nothing_crossed, sent_after, sent_by, with_packet}
+pub use Rattle.rasta_check.specs.Capture.Crossing.{Crossing, IsCrossing, nothing_crossed, sent_by}
+pub use Rattle.rasta_check.specs.Capture.Reading.{after_reading, then_crossing, crossing_of, crossing_with, keeps_limits, sent_after, with_packet}
 unfoldable pub use Rattle.rasta_check.specs.Capture.Reading.{after_record, after_records}
-pub use Rattle.rasta_check.specs.Internals.Checking.{Followed, follow, made_there, unless}
+pub use Rattle.rasta_check.specs.Internals.Checking.{Followed, follow, made_there, cursor_unless}
 unfoldable pub use Rattle.rasta_check.specs.Internals.Checking.{follow_from}
 pub use Rattle.rasta_check.specs.Internals.Datagrams.{Kept, KeptDatagrams, kept_by}
 pub use Rattle.rasta_check.specs.Internals.Listing.{shown_by, with_proofs}
@@ -58,11 +60,11 @@ pub use Rattle.rasta_check.specs.Internals.Storing.{crossing_left}
 pub use Rattle.rasta_check.specs.Model.Laws.{NamesOne}
 pub use Rattle.rasta_check.specs.Model.Taken.{TakenUnit, all_made, asked_positions, data_copies, pdus_made, pdus_of, position_with, surely_taken, units_along, units_from, units_shown, units_taken}
 pub use Rattle.rasta_check.specs.Model.Theorem.{Appends, HandsUpUnits, OfConnection, units_handed, units_listed}
-pub use Rattle.rasta_check.specs.Model.World.{IsWithin, Move, Moves, Reaches, Station, World, arrives, begins, end_of, first_station, goes_on, makes, other_side, repeats, side_moves, station_of, takes, waits}
+pub use Rattle.rasta_check.specs.Model.World.{KeepsLimit, Move, Moves, Reaches, Station, World, arrives, begins, end_of, first_station, goes_on, makes, other_side, repeats, side_moves, station_of, takes, waits}
 unfoldable pub use Rattle.rasta_check.specs.Run.Levels.{makes_at, takes_at}
 pub use Rattle.rasta_check.specs.Run.Lines.{lines_of_move, told}
 pub use Rattle.rasta_check.specs.Run.Moves.{Happened, Runs, does, starts}
-pub use Rattle.rasta_check.specs.Script.Following.{Advances, Cursor, Follows, Leads, at_start, makes_next, takes_next}
+pub use Rattle.rasta_check.specs.Script.Following.{Advances, ScriptCursor, Follows, Leads, at_start, makes_next, takes_next}
 pub use Rattle.rasta_check.specs.Verdict.Listed.{listed_of, messages_of_unit, messages_taken, numbered_from}
 pub use Rattle.rasta_check.specs.Verdict.Report.{BothFit, Explained, explained, report_of}
 pub use Rattle.rasta_check.specs.declared.crossing_store.StoredPacket.{StoredPacket}

@@ -3,8 +3,8 @@ ghost use Rattle.std.specs.Prelude.{◌≡◌, ◌≤◌, ◌⊎◌, ℕ, [], le
 ghost use Rattle.rasta_pcap.specs.Fault.{no_memory};
 ghost use Rattle.rasta_pcap.specs.Capture.{IsCapture};
 ghost use Rattle.rasta_udp.specs.Frame.{Packet};
-ghost use Rattle.rasta_check.specs.Capture.Crossing.{crossing_list};
-ghost use Rattle.rasta_check.specs.Capture.Reading.{AreSentLists, IsCrossing};
+ghost use Rattle.rasta_check.specs.Capture.SentLists.{crossing_list};
+ghost use Rattle.rasta_check.specs.Capture.Crossing.{AreSentLists, IsCrossing};
 ghost use Rattle.rasta_end.specs.State.{EndState};
 ghost use Rattle.rasta_check.specs.Internals.Checking;
 ghost use Rattle.rasta_check.specs.Internals.Listing.{listed_with, proofs_from};

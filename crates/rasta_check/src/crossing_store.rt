@@ -3,14 +3,16 @@ ghost use Rattle.std.specs.Prelude.{◌≡◌, ℕ, ◌∷◌, ◌++◌, [], ◌
 ghost use Rattle.rasta_pcap.specs.Fault.{no_memory};
 ghost use Rattle.rasta_udp.specs.Frame.{Packet, packet_in, packet_of};
 ghost use Rattle.rasta_pdu.specs.Pdu.{RedundancyPdu, decode_of, redundancy_bytes};
-ghost use Rattle.rasta_check.specs.Capture.Crossing.{FirstCopy, Spells, is_next_number, number_in_bytes, packet_fault};
+ghost use Rattle.rasta_check.specs.Capture.SentLists.{FirstCopy, Spells, number_in_bytes};
+ghost use Rattle.rasta_check.specs.Capture.PacketFaults.{is_next_number, packet_fault};
 ghost use Rattle.rasta_check.specs.Internals.Datagrams.{kept_by};
 ghost use Rattle.rasta_check.specs.Capture.Lists.{copy_of, position_of_number, position_of_place};
-ghost use Rattle.rasta_check.specs.Capture.Reading.{Crossing, IsCrossing, sent_by, with_packet, nothing_crossed, after_packet, after_frame, after_record, packet_at, packet_found};
+ghost use Rattle.rasta_check.specs.Capture.Crossing.{Crossing, IsCrossing, sent_by, nothing_crossed};
+ghost use Rattle.rasta_check.specs.Capture.Reading.{with_packet, after_packet, after_frame, after_record, packet_at, packet_found};
 ghost use Rattle.rasta_check.specs.Capture.Passages.{passage_in};
-ghost use Rattle.rasta_check.specs.Internals.Stored.{IsJudged, IsStore, crossing_by, first_copy_bytes};
+ghost use Rattle.rasta_check.specs.Internals.Stored.{HasPosition, IsStore, crossing_by, first_copy_bytes};
 ghost use Rattle.rasta_check.specs.Model.Theorem.{most_packets};
-ghost use Rattle.rasta_check.specs.Capture.Crossing.{IsRecorded};
+ghost use Rattle.rasta_check.specs.Capture.SentLists.{IsRecorded};
 ghost use Rattle.rasta_check.specs.Model.World.{most_sent};
 
 use crate::crossing::{MOST_PACKETS, MOST_SENT, number_in};
@@ -258,7 +260,7 @@ impl Store {
             × Spells self.now.params found.now.side d found.now.payload.now) }
         ensures value { MatchResult result
             (λ known. (packet_fault self.now.params (sent_by self.now found.now.side) (packet_of found.now) ≡ None)
-            × IsJudged self.now (packet_of found.now) known)
+            × HasPosition self.now (packet_of found.now) known)
             (λ f. packet_fault self.now.params (sent_by self.now found.now.side) (packet_of found.now) ≡ Some f) }
         ensures crossing { IsCrossing self.now }
     {
@@ -290,7 +292,7 @@ impl Store {
     // Adds a packet, and its datagram where its number is new. Without memory for it all stays as it was.
     #[tactic(auto, using(crate::proofs::Internals::StoreGrowth::datagram_fits))]
     fn push(&mut self, found: &Datagram<'_>, known: Option<u32>) -> Result<(), AllocError>
-        requires judged { IsJudged self.old (packet_of found.now) known }
+        requires judged { HasPosition self.old (packet_of found.now) known }
         requires crossing { IsCrossing (with_packet self.old (packet_of found.now)) }
         ensures ok { OnOk result (self.new ≡ with_packet self.old (packet_of found.now)) }
         ensures err { OnErr result (self.new ≡ self.old) }

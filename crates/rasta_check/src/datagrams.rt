@@ -1,6 +1,6 @@
 //! Datagrams one after the other in one vector.
 ghost use Rattle.std.specs.Prelude.{◌≡◌, ◌+◌, ◌<◌, ◌≤◌, ◌^◌, [], ◌∷◌, ◌++◌, length, map, slice_get, option_map, OnOk, OnErr};
-ghost use Rattle.rasta_check.specs.Internals.Datagrams.{AreWithin, KeptDatagrams, keeping, kept_by, kept_in, kept_of, nothing_kept};
+ghost use Rattle.rasta_check.specs.Internals.Datagrams.{LieIn, KeptDatagrams, keeping, kept_by, kept_in, kept_of, nothing_kept};
 
 use rasta_pcap::Side;
 use std::alloc::{AllocError, Global};
@@ -16,7 +16,7 @@ pub(crate) struct Span {
 
 // The place and the bytes of the datagram at a position.
 fn datagram_at<'a>(bytes: &'a [u8], spans: &[Span], position: u32) -> Option<(u32, &'a [u8])>
-    requires { AreWithin (length bytes.now) spans.now }
+    requires { LieIn (length bytes.now) spans.now }
     ensures { option_map kept_of result ≡ slice_get (map (kept_in bytes.now) spans.now) position }
 {
     let span = spans.get(position as usize)?;
@@ -65,7 +65,7 @@ impl Model for Datagrams {
       server = map (kept_in d.bytes.items) d.server.items;
     } };
 
-    ghost invariant = { λ d. AreWithin (length d.bytes.items) d.client.items × AreWithin (length d.bytes.items) d.server.items };
+    ghost invariant = { λ d. LieIn (length d.bytes.items) d.client.items × LieIn (length d.bytes.items) d.server.items };
 }
 
 impl Datagrams {

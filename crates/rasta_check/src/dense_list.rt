@@ -1,6 +1,6 @@
 //! A sent list in one vector.
 ghost use Rattle.std.specs.Prelude.{◌≡◌, ◌+◌, ◌<◌, ◌^◌, [], ◌∷◌, ◌++◌, List, length, map, IfOk, OnOk, OnErr};
-ghost use Rattle.rasta_check.specs.Capture.Crossing.{FirstCopy};
+ghost use Rattle.rasta_check.specs.Capture.SentLists.{FirstCopy};
 ghost use Rattle.rasta_check.specs.Capture.Lists.{AreMarks, IsOrdered, copy_of};
 
 use crate::place_table::PlaceTable;

@@ -7,7 +7,7 @@ ghost use Rattle.rasta_end.specs.MakeRule.{make_fault, after_make};
 ghost use Rattle.rasta_end.specs.Starts.{start_of};
 ghost use Rattle.rasta_check.specs.Script.Following.{at_start};
 ghost use Rattle.rasta_check.specs.Internals.Checking;
-ghost use Rattle.rasta_check.specs.Internals.Checking.{unless, next_cursor, take_entry, make_entry, taken_there, made_there, moved_to, IsRefused};
+ghost use Rattle.rasta_check.specs.Internals.Checking.{cursor_unless, next_cursor, take_entry, make_entry, taken_there, made_there, moved_to, IsRefusedFollow};
 
 use crate::sent_list::SentList;
 use rasta_cert::Entry;
@@ -24,8 +24,8 @@ pub(crate) struct Follower<'a> {
     // The number of the next entry, from 1.
     entry: u32,
     level: u64,
-    made: u64,
-    taken: u64,
+    made_count: u64,
+    passed: u64,
     end: End<'a>,
 }
 
@@ -39,10 +39,10 @@ impl<'a> Model for Follower<'a> {
       params = f.end.params;
       side = f.side;
       entry = f.entry;
-      cursor = record { level = f.level; made = f.made; taken = f.taken; state = f.end.state };
+      cursor = record { level = f.level; made_count = f.made_count; passed = f.passed; state = f.end.state };
     } };
 
-    ghost invariant = { λ f. (f.end.state.accepted ≤ f.entry * 2 ^ 32) × (f.made ≤ f.entry) };
+    ghost invariant = { λ f. (f.end.state.accepted ≤ f.entry * 2 ^ 32) × (f.made_count ≤ f.entry) };
 }
 
 impl<'a> Follower<'a> {
@@ -76,7 +76,7 @@ impl<'a> Follower<'a> {
     ) -> Result<(u32, Pdu<'a>), u8>
         ensures { MatchResult result
             (λ r. take_entry self.now.params packets (S.content peer.now) self.now.cursor slot number
-            ≡ unless (take_fault self.now.params self.now.cursor.state self.now.cursor.state.clock)
+            ≡ cursor_unless (take_fault self.now.params self.now.cursor.state self.now.cursor.state.clock)
             (taken_there self.now.cursor slot r.0 (after_take self.now.params self.now.cursor.state (value_of r.1).safety)))
             (λ n. take_entry self.now.params packets (S.content peer.now) self.now.cursor slot number ≡ Err n) }
     {
@@ -91,7 +91,7 @@ impl<'a> Follower<'a> {
         };
         if place >= slot {
             Err(Fault::NOT_YET_CROSSED)
-        } else if u64::from(position) < self.taken {
+        } else if u64::from(position) < self.passed {
             Err(Fault::NOT_RISING)
         } else {
             Ok((position, pdu))
@@ -109,7 +109,7 @@ impl<'a> Follower<'a> {
         requires few { self.old.entry ≤ 4000000 }
         ensures ok { OnOk result
             ((take_entry self.old.params packets (S.content peer.now) self.old.cursor slot number ≡ Ok self.new.cursor) × (self.new ≡ moved_to self.old self.new.cursor)) }
-        ensures err { IfErr result (IsRefused self.old (take_entry self.old.params packets (S.content peer.now) self.old.cursor slot number)) }
+        ensures err { IfErr result (IsRefusedFollow self.old (take_entry self.old.params packets (S.content peer.now) self.old.cursor slot number)) }
     {
         let (position, pdu) = match self.takeable(packets, peer, slot, number) {
             Ok(found) => found,
@@ -119,7 +119,7 @@ impl<'a> Follower<'a> {
             return Err(self.placed(fault));
         }
         self.level = u64::from(slot);
-        self.taken = u64::from(position) + 1;
+        self.passed = u64::from(position) + 1;
         self.entry += 1;
         Ok(())
     }
@@ -128,7 +128,7 @@ impl<'a> Follower<'a> {
     fn makeable<S: SentList<'a>>(&self, own: &S, index: u32) -> Result<Pdu<'a>, u8>
         ensures { (clock : ℕ) (why : _) → MatchResult result
             (λ pdu. make_entry self.now.params (S.content own.now) self.now.cursor index clock why
-            ≡ unless (make_fault self.now.params self.now.cursor.state (value_of pdu).safety clock why)
+            ≡ cursor_unless (make_fault self.now.params self.now.cursor.state (value_of pdu).safety clock why)
             (made_there self.now.cursor index (after_make self.now.cursor.state (value_of pdu).safety clock why)))
             (λ n. make_entry self.now.params (S.content own.now) self.now.cursor index clock why ≡ Err n) }
     {
@@ -138,7 +138,7 @@ impl<'a> Follower<'a> {
         let Some(position) = own.at_place(index) else {
             return Err(Fault::NOT_FIRST_COPY);
         };
-        if u64::from(position) != self.made {
+        if u64::from(position) != self.made_count {
             return Err(Fault::MAKE_MISSING);
         }
         match own.get(position) {
@@ -158,7 +158,7 @@ impl<'a> Follower<'a> {
         requires few { self.old.entry ≤ 4000000 }
         ensures ok { OnOk result
             ((make_entry self.old.params (S.content own.now) self.old.cursor index clock why ≡ Ok self.new.cursor) × (self.new ≡ moved_to self.old self.new.cursor)) }
-        ensures err { IfErr result (IsRefused self.old (make_entry self.old.params (S.content own.now) self.old.cursor index clock why)) }
+        ensures err { IfErr result (IsRefusedFollow self.old (make_entry self.old.params (S.content own.now) self.old.cursor index clock why)) }
     {
         let pdu = match self.makeable(own, index) {
             Ok(pdu) => pdu,
@@ -168,7 +168,7 @@ impl<'a> Follower<'a> {
             return Err(self.placed(fault));
         }
         self.level = u64::from(index) + 1;
-        self.made += 1;
+        self.made_count += 1;
         self.entry += 1;
         Ok(())
     }
@@ -185,7 +185,7 @@ impl<'a> Follower<'a> {
         requires few { self.old.entry ≤ 4000000 }
         ensures ok { OnOk result
             ((next_cursor self.old.params packets (S.content own.now) (S.content peer.now) self.old.cursor entry ≡ Ok self.new.cursor) × (self.new ≡ moved_to self.old self.new.cursor)) }
-        ensures err { IfErr result (IsRefused self.old (next_cursor self.old.params packets (S.content own.now) (S.content peer.now) self.old.cursor entry)) }
+        ensures err { IfErr result (IsRefusedFollow self.old (next_cursor self.old.params packets (S.content own.now) (S.content peer.now) self.old.cursor entry)) }
     {
         match entry {
             Entry::Take { slot, number } => self.take(packets, peer, slot, number),
@@ -209,8 +209,8 @@ impl<'a> Follower<'a> {
             side,
             entry: 1,
             level: 0,
-            made: 0,
-            taken: 0,
+            made_count: 0,
+            passed: 0,
             end,
         })
     }
@@ -218,10 +218,10 @@ impl<'a> Follower<'a> {
     // After the last entry: the whole sent list has to be made.
     fn finish<S: SentList<'a>>(self, own: &S) -> Result<End<'a>, Fault>
         ensures { MatchResult result
-            (λ e. (e ≡ record { params = self.entry.params; state = self.entry.cursor.state }) × (self.entry.cursor.made ≡ length (S.content own.now)))
-            (λ f. (f ≡ fault_of_end make_missing self.entry.entry self.entry.side) × ((self.entry.cursor.made == length (S.content own.now)) ≡ false)) }
+            (λ e. (e ≡ record { params = self.entry.params; state = self.entry.cursor.state }) × (self.entry.cursor.made_count ≡ length (S.content own.now)))
+            (λ f. (f ≡ fault_of_end make_missing self.entry.entry self.entry.side) × ((self.entry.cursor.made_count == length (S.content own.now)) ≡ false)) }
     {
-        if self.made == u64::from(own.len()) {
+        if self.made_count == u64::from(own.len()) {
             Ok(self.end)
         } else {
             Err(self.fault(Fault::MAKE_MISSING))

@@ -1,7 +1,8 @@
 //! A sent list in a map.
 ghost use Rattle.std.specs.Prelude.{◌≡◌, ◌+◌, ◌<◌, ◌^◌, [], ◌∷◌, ◌++◌, List, length, option_map, OnOk, OnErr};
 ghost use Rattle.std.specs.Map.{keys_of};
-ghost use Rattle.rasta_check.specs.Capture.Crossing.{FirstCopy, copy_with};
+ghost use Rattle.rasta_check.specs.Capture.SentLists.{FirstCopy};
+ghost use Rattle.rasta_check.specs.Capture.PacketFaults.{copy_with};
 ghost use Rattle.rasta_check.specs.Capture.Lists.{AreMarks, IsOrdered, copies_in, copy_of, numbers_of};
 
 use crate::place_table::PlaceTable;

@@ -2,7 +2,7 @@
 ghost use Rattle.std.specs.Prelude.{◌≡◌, ◌≤◌, ◌↔◌, ℕ, suc, List, Ok, Err, MatchResult, IfErr, IsSome, ◌⊎◌};
 ghost use Rattle.rasta_pcap.specs.Fault.{no_memory, redundancy_length, number_gap};
 ghost use Rattle.rasta_pcap.specs.Capture.{reading};
-ghost use Rattle.rasta_check.specs.Capture.Crossing.{FirstCopy};
+ghost use Rattle.rasta_check.specs.Capture.SentLists.{FirstCopy};
 ghost use Rattle.rasta_check.specs.Capture.Reading.{after_reading};
 ghost use Rattle.rasta_check.specs.Internals.Packets.{after_next};
 ghost use Rattle.rasta_check.specs.Capture.Faults.{CrossedIn, Impossible, IsFaultlessCapture, IsRefusedCapture, packets_through};

@@ -1,6 +1,6 @@
 //! The list of PDUs that one side sent.
 ghost use Rattle.std.specs.Prelude.{◌≡◌, List, length, slice_get, option_map};
-ghost use Rattle.rasta_check.specs.Capture.Crossing.{FirstCopy};
+ghost use Rattle.rasta_check.specs.Capture.SentLists.{FirstCopy};
 ghost use Rattle.rasta_check.specs.Capture.Lists.{IsOrdered, copy_of, position_of_number, position_of_place};
 
 use rasta_pdu::Pdu;

@@ -1,7 +1,7 @@
 //! A sent list in a store.
 ghost use Rattle.std.specs.Prelude.{◌≡◌, List};
-ghost use Rattle.rasta_check.specs.Capture.Crossing.{FirstCopy};
-ghost use Rattle.rasta_check.specs.Capture.Reading.{sent_by};
+ghost use Rattle.rasta_check.specs.Capture.SentLists.{FirstCopy};
+ghost use Rattle.rasta_check.specs.Capture.Crossing.{sent_by};
 
 use crate::crossing_store::Store;
 use crate::sent_list::SentList;

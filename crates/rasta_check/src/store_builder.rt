@@ -2,8 +2,9 @@
 ghost use Rattle.std.specs.Prelude.{◌≡◌, ◌⊎◌, Ok, Err, MatchResult, OnErr};
 ghost use Rattle.rasta_pcap.specs.Fault.{no_memory};
 ghost use Rattle.rasta_udp.specs.Frame.{packet_of};
-ghost use Rattle.rasta_check.specs.Capture.Crossing.{IsRecorded};
-ghost use Rattle.rasta_check.specs.Capture.Reading.{after_packet, after_record, nothing_crossed, packet_at};
+ghost use Rattle.rasta_check.specs.Capture.SentLists.{IsRecorded};
+ghost use Rattle.rasta_check.specs.Capture.Reading.{after_packet, after_record, packet_at};
+ghost use Rattle.rasta_check.specs.Capture.Crossing.{nothing_crossed};
 
 use crate::crossing_store::Store;
 use crate::passage::Passage;

@@ -1,7 +1,7 @@
 //! Working out what a report lists: the messages that an end surely took of its peer.
 ghost use Rattle.std.specs.Prelude.{◌≡◌, ◌++◌, ◌∷◌, [], List, length, map, slice_get, IfOk, OnOk};
 ghost use Rattle.rasta_pdu.specs.Pdu.{value_of, messages_in};
-ghost use Rattle.rasta_check.specs.Capture.Crossing.{FirstCopy};
+ghost use Rattle.rasta_check.specs.Capture.SentLists.{FirstCopy};
 ghost use Rattle.rasta_check.specs.Capture.Lists.{copy_of};
 ghost use Rattle.rasta_check.specs.Verdict.Listed.{messages_of_unit, messages_taken, listed_of, numbered_from};
 ghost use Rattle.rasta_check.specs.Internals.Listing.{listed_with, proofs_from, proved_units, shown_by, with_proofs};

@@ -60,20 +60,24 @@ Tells (Check a b c) p certificate = IsVerdict p certificate
 Tells (Audit a b) p certificate = IsAudit p
 
 -- what was written begins what a form tells: `show` and `check` have one text, and the others may have several
-abbrev pub BeginsTelling : Form → Parameters → List ℕ → Option (List ℕ) → Option (List ℕ) → Option (List ℕ) → Option (List ℕ) → Type 0
+abbrev pub BeginsTelling : Form → Parameters → List ℕ → Option (List ℕ) → Option (List ℕ) → Option (List ℕ)
+    → Option (List ℕ) → Type 0
 BeginsTelling (Show a b) p certificate = WritesBeginning (show_text p)
 BeginsTelling (Build a b) p certificate = BeginsOutcome (IsBuild p)
 BeginsTelling (Check a b c) p certificate = BeginsVerdict (IsVerdict p certificate)
 BeginsTelling (Audit a b) p certificate = BeginsOutcome (IsAudit p)
 
--- where the status is 0, what `check` and `audit` wrote tells a run, and the headline holds of it; the others make no claim
-abbrev pub HoldsHeadline : Form → Parameters → ℕ → Option (List ℕ) → Option (List ℕ) → Option (List ℕ) → Option (List ℕ) → Type 0
+-- where the status is 0, what `check` and `audit` wrote tells a run, and the headline holds of it; the others make no
+-- claim
+abbrev pub HoldsHeadline : Form → Parameters → ℕ → Option (List ℕ) → Option (List ℕ) → Option (List ℕ) → Option (List ℕ)
+    → Type 0
 HoldsHeadline (Check a b c) p = WritesVerdict (ClaimsHeadline p)
 HoldsHeadline (Audit a b) p = WritesVerdict (ClaimsHeadline p)
 HoldsHeadline _ p = λ status old_input new_input old_output new_output. Unit {0}
 
 -- `build` and `audit` decide; the others make no claim
-abbrev pub HoldsDecision : Form → Parameters → ℕ → Option (List ℕ) → Option (List ℕ) → Option (List ℕ) → Option (List ℕ) → Type 0
+abbrev pub HoldsDecision : Form → Parameters → ℕ → Option (List ℕ) → Option (List ℕ) → Option (List ℕ) → Option (List ℕ)
+    → Type 0
 HoldsDecision (Build a b) p = WritesVerdict (Decides p)
 HoldsDecision (Audit a b) p = WritesVerdict (Decides p)
 HoldsDecision _ p = λ status old_input new_input old_output new_output. Unit {0}
@@ -119,9 +123,12 @@ pub record CarriesOut (form : Form) (old new : Devices) (status : ℕ) : Type 0 
 -- later is not touched by then.
 pub data GivesUp (form : Form) (old new : Devices) (fault : Fault) : Type 0 where
   parameters_unread : IsReadFault fault old.parameter_failures new.parameter_failures
-      → new.certificate ≡ old.certificate → new.capture ≡ old.capture → new.output ≡ old.output → GivesUp form old new fault
-  parameters_refused : (text : List ℕ) → ReadsWhole old.parameters new.parameters text → ReadsParameters text (Err fault)
-      → new.certificate ≡ old.certificate → new.capture ≡ old.capture → new.output ≡ old.output → GivesUp form old new fault
+      → new.certificate ≡ old.certificate → new.capture ≡ old.capture → new.output ≡ old.output
+      → GivesUp form old new fault
+  parameters_refused : (text : List ℕ) → ReadsWhole old.parameters new.parameters text
+      → ReadsParameters text (Err fault)
+      → new.certificate ≡ old.certificate → new.capture ≡ old.capture → new.output ≡ old.output
+      → GivesUp form old new fault
   certificate_unread : (p : Parameters) → ReadsParameterFile old.parameters new.parameters p
       → IsReadFault fault old.certificate_failures new.certificate_failures
       → new.capture ≡ old.capture → new.output ≡ old.output → GivesUp form old new fault

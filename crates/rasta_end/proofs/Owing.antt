@@ -5,7 +5,7 @@ use Rattle.rasta_end.specs.declared.owed.Owed.TheVariants.{ConnectionResponse as
 use Rattle.rasta_end.specs.declared.owed.Owes.{Owes}
 use Rattle.rasta_end.specs.declared.owed.Demand.TheVariants.{First}
 use Rattle.rasta_end.specs.declared.make_row.MakeRow.{MakeRow}
-use Rattle.rasta_end.specs.declared.make_row.MakeRow.TheVariants.{Returns}
+use Rattle.rasta_end.specs.declared.make_row.MakeRow.TheVariants.{Resumes}
 use Rattle.rasta_end.specs.MakeRule.{lacks, owes_else, is_refused_row, is_owing_else}
 use Rattle.rasta_end.specs.Judged.{responses_owed, responses_paid}
 use Rattle.rasta_end.specs.TakeRule.{resends}
@@ -44,10 +44,10 @@ owes-response None unit (suc n) b l e = absurd (cc)
 owes-response None unit zero true l e = absurd (cc)
 owes-response None unit zero false l e = absurd (cc)
 
-pub returns-pays : (row : MakeRow) (o : Owes) (r : Option Owed) → row ≡ Returns → r ≡ None
+pub resumes-pays : (row : MakeRow) (o : Owes) (r : Option Owed) → row ≡ Resumes → r ≡ None
     → is_refused_row (Some row) (owed_list o) ≡ false → is_owing_else (Some row) (owed_list o) ≡ false
     → responses_paid row + responses_owed r ≤ responses_owed o.reply
-returns-pays row o r is none allowed owing =
+resumes-pays row o r is none allowed owing =
     rw (is, none) (by (owes-response o.reply o.unit o.units o.request
     (subst (λ (w : MakeRow). is_refused_row (Some w) (owed_list o) ≡ false) is allowed)
     (subst (λ (w : MakeRow). is_owing_else (Some w) (owed_list o) ≡ false) is owing)))

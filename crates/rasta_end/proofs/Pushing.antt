@@ -12,7 +12,7 @@ use Rattle.rasta_end.specs.declared.made_pdus.QuietPdu.{QuietPdu}
 use Rattle.rasta_end.specs.State.{Made, kinds, content_of}
 use Rattle.rasta_end.specs.MakeRule.{contents}
 use Rattle.rasta_end.specs.Units.{all_units_conveyed, conveyed, units_after, responses_in, responses_after}
-use Rattle.rasta_end.specs.Kept.{AreOwn, made_of, all_made, conveyed_of, quiet_made, quiet_count, quiet_units, OwnPdus}
+use Rattle.rasta_end.specs.Kept.{AreOwn, made_of, made_inside, conveyed_of, quiet_made, quiet_count, quiet_units, OwnPdus}
 use Rattle.rasta_end.specs.declared.made_pdus.MadePdus.TheInside.{Inside}
 use Rattle.rasta_end.proofs.Conveying.{all_units-push, responses_in-push, more_asks}
 
@@ -144,7 +144,7 @@ responses-push q ms ns m n items e h =
     more = omega (arith, h)
 
 -- an end's PDUs with one more, m, which is the PDU x
-module _ (i j : Inside) (o : OwnPdus) (m : MadePdu) (x : SafetyPdu) (unit : Option ℕ) (view : record { quiet = i.quiet; made = all_made i; asks = i.asks.items } ≡ o) (own : AreOwn i)
+module _ (i j : Inside) (o : OwnPdus) (m : MadePdu) (x : SafetyPdu) (unit : Option ℕ) (view : record { quiet = i.quiet; made = made_inside i; asks = i.asks.items } ≡ o) (own : AreOwn i)
     (pdu : made_of m ≡ record { pdu = x; unit = unit })
     (values : m.conveyed ≡ units_after o.asks (all_units_conveyed o.asks (kinds o.made)) (conveyed o.asks (kinds o.made)).responses x.kind)
     (quiet : j.quiet ≡ i.quiet) (asks : j.asks ≡ i.asks) (items : j.made.items ≡ i.made.items ++ m ∷ []) where

@@ -7,7 +7,7 @@ use Rattle.rasta_end.specs.declared.end.End.TheInside.{Inside}
 use Rattle.rasta_end.specs.declared.owed.Owed.{Owed}
 use Rattle.rasta_end.specs.declared.owed.Owed.TheVariants.{RetransmissionResponse as OweRetransmissionResponse}
 use Rattle.rasta_end.specs.declared.make_row.MakeRow.{MakeRow}
-use Rattle.rasta_end.specs.declared.make_row.MakeRow.TheVariants.{Returns}
+use Rattle.rasta_end.specs.declared.make_row.MakeRow.TheVariants.{Resumes}
 use Rattle.rasta_end.specs.State.{EndState, kinds}
 use Rattle.rasta_end.specs.Units.{responses_in}
 use Rattle.rasta_end.specs.Kept.{owed_list, quiet_count}
@@ -51,7 +51,7 @@ responses_owed _ = 0
 
 -- the retransmission responses that a make of this row pays
 abbrev pub responses_paid : MakeRow → ℕ
-responses_paid Returns = 1
+responses_paid Resumes = 1
 responses_paid _ = 0
 
 -- bounds that every end keeps

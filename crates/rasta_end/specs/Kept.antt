@@ -44,7 +44,11 @@ conveyed_of m = m.conveyed
 
 abbrev pub quiet_made : Option QuietPdu → List Made
 quiet_made None = []
-quiet_made (Some q) = record { pdu = record { kind = Heartbeat; sn = q.sn; cs = q.cs; ts = q.ts; cts = q.cts; body = Empty }; unit = None } ∷ []
+quiet_made (Some q) =
+    record {
+      pdu = record { kind = Heartbeat; sn = q.sn; cs = q.cs; ts = q.ts; cts = q.cts; body = Empty };
+      unit = None;
+    } ∷ []
 
 -- how many PDUs stand before those that were made since the start
 abbrev pub quiet_count : Option QuietPdu → ℕ
@@ -55,11 +59,12 @@ abbrev pub quiet_units : Option QuietPdu → List ℕ
 quiet_units None = []
 quiet_units (Some q) = 0 ∷ []
 
-abbrev pub all_made : Inside → List Made
-all_made o = quiet_made o.quiet ++ map made_of o.made.items
+abbrev pub made_inside : Inside → List Made
+made_inside o = quiet_made o.quiet ++ map made_of o.made.items
 
 -- the units conveyed through each position and the contents of the units are kept beside the PDUs
 pub record AreOwn (o : Inside) : Type 0 where
-  pub units : quiet_units o.quiet ++ map conveyed_of o.made.items ≡ all_units_conveyed o.asks.items (kinds (all_made o))
-  pub contents : map (λ (b : Bor (List ℕ)). b.now) o.contents.items ≡ contents (all_made o)
-  pub responses : o.responses ≡ responses_in (kinds (all_made o))
+  pub units : quiet_units o.quiet ++ map conveyed_of o.made.items
+      ≡ all_units_conveyed o.asks.items (kinds (made_inside o))
+  pub contents : map (λ (b : Bor (List ℕ)). b.now) o.contents.items ≡ contents (made_inside o)
+  pub responses : o.responses ≡ responses_in (kinds (made_inside o))

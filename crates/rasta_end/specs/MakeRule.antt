@@ -1,13 +1,19 @@
 -- The make rule: which PDU an end may make, why, and what it is afterwards.
-use Rattle.std.specs.Prelude.{◌≡◌, ◌⊎◌, ℕ, suc, ◌+◌, ◌^◌, Bool, true, false, ◌&&◌, ◌||◌, not, if◌then◌else◌, nat_lt, ◌==◌, List, [], ◌∷◌, ◌++◌, length, Option, Some, None, slice_get, map, filter, drop, is_some, All, IsFalse, zip}
+use Rattle.std.specs.Prelude.{◌≡◌, ◌⊎◌, ℕ, suc, ◌+◌, ◌^◌, Bool, true, false, ◌&&◌, ◌||◌, not, if◌then◌else◌, nat_lt}
+use Rattle.std.specs.Prelude.{◌==◌, List, [], ◌∷◌, ◌++◌, length, Option, Some, None, slice_get, map, filter, drop}
+use Rattle.std.specs.Prelude.{is_some, All, IsFalse, zip}
 use Rattle.std.specs.Bool.{then_some}
 use Rattle.std.specs.Option.{option_map_or}
 use Rattle.std.specs.Str.{bytes_eq}
 use Rattle.rasta_pcap.specs.declared.fault.Fault.{Fault}
-use Rattle.rasta_pcap.specs.Fault.{fault_of_end, no_memory, closed, not_allowed, reply_owed, sequence_number, clock_differs, clock_falls, past_deadline, too_early_timeout, confirmed_number, confirmed_time, resend_differs}
+use Rattle.rasta_pcap.specs.Fault.{fault_of_end, no_memory, closed, not_allowed, reply_owed, sequence_number}
+use Rattle.rasta_pcap.specs.Fault.{clock_differs, clock_falls, past_deadline, too_early_timeout, confirmed_number}
+use Rattle.rasta_pcap.specs.Fault.{confirmed_time, resend_differs}
 use Rattle.rasta_pcap.specs.declared.fault.Side.{Side}
 use Rattle.rasta_pdu.specs.declared.kind.Kind.{Kind}
-use Rattle.rasta_pdu.specs.declared.kind.Kind.TheVariants.{ConnectionRequest, ConnectionResponse, RetransmissionRequest, RetransmissionResponse, DisconnectionRequest, Heartbeat, Data, RetransmittedData}
+use Rattle.rasta_pdu.specs.declared.kind.Kind.TheVariants.{ConnectionRequest, ConnectionResponse, RetransmissionRequest}
+use Rattle.rasta_pdu.specs.declared.kind.Kind.TheVariants.{RetransmissionResponse, DisconnectionRequest, Heartbeat}
+use Rattle.rasta_pdu.specs.declared.kind.Kind.TheVariants.{Data, RetransmittedData}
 use Rattle.rasta_pdu.specs.Params.{Parameters}
 use Rattle.rasta_pdu.specs.Pdu.{SafetyPdu, is_kind}
 use Rattle.rasta_end.specs.declared.phase.Phase.{Phase}
@@ -15,19 +21,25 @@ use Rattle.rasta_end.specs.declared.phase.Phase.TheVariants.{Closed, Start}
 use Rattle.rasta_end.specs.declared.why.Why.{Why}
 use Rattle.rasta_end.specs.declared.why.Why.TheVariants.{Open, Reply, Beat, Fresh, Again, Ask, Bye, Expired}
 use Rattle.rasta_end.specs.declared.make_row.MakeRow.{MakeRow}
-use Rattle.rasta_end.specs.declared.make_row.MakeRow.TheVariants.{Opens, Answers, StartsBeating, Returns, Resends, Requests, Beats, Offers, Leaves, TimesOut}
+use Rattle.rasta_end.specs.declared.make_row.MakeRow.TheVariants.{Opens, Answers, StartsBeating, Resumes, Resends}
+use Rattle.rasta_end.specs.declared.make_row.MakeRow.TheVariants.{Requests, Beats, Offers, Leaves, TimesOut}
 use Rattle.rasta_end.specs.declared.owed.Owed.{Owed}
-use Rattle.rasta_end.specs.declared.owed.Owed.TheVariants.{ConnectionResponse as OweConnectionResponse, FirstHeartbeat as OweFirstHeartbeat, RetransmissionResponse as OweRetransmissionResponse, Resend as OweResend, RetransmissionRequest as OweRetransmissionRequest}
+use Rattle.rasta_end.specs.declared.owed.Owed.TheVariants.{ConnectionResponse as OweConnectionResponse}
+use Rattle.rasta_end.specs.declared.owed.Owed.TheVariants.{FirstHeartbeat as OweFirstHeartbeat}
+use Rattle.rasta_end.specs.declared.owed.Owed.TheVariants.{RetransmissionResponse as OweRetransmissionResponse}
+use Rattle.rasta_end.specs.declared.owed.Owed.TheVariants.{Resend as OweResend}
+use Rattle.rasta_end.specs.declared.owed.Owed.TheVariants.{RetransmissionRequest as OweRetransmissionRequest}
 use Rattle.rasta_end.specs.declared.owed.Demand.{Demand}
 use Rattle.rasta_end.specs.declared.owed.Demand.TheVariants.{First, Nothing, Anything}
-use Rattle.rasta_end.specs.State.{Made, EndState, wrapped, sn_at, is_client, is_closed, is_start, is_up, is_connected, is_active, reason_of, content_of}
+use Rattle.rasta_end.specs.State.{Made, EndState, raised, wrapped, sn_at, is_client, is_closed, is_start, is_up}
+use Rattle.rasta_end.specs.State.{is_connected, is_active, reason_of, content_of}
 
 -- the make table: why, type, and who may follow the row in which phase
 abbrev pub make_row : Side → Phase → ℕ → Why → Kind → Option MakeRow
 make_row side phase reason Open ConnectionRequest = then_some (is_client side && is_closed phase) Opens
 make_row side phase reason Reply ConnectionResponse = then_some (not (is_client side) && is_start phase) Answers
 make_row side phase reason Reply Heartbeat = then_some (is_client side && is_up phase) StartsBeating
-make_row side phase reason Reply RetransmissionResponse = then_some (is_connected phase) Returns
+make_row side phase reason Reply RetransmissionResponse = then_some (is_connected phase) Resumes
 make_row side phase reason (Again unit) RetransmittedData = then_some (is_connected phase) (Resends unit)
 make_row side phase reason Ask RetransmissionRequest = then_some (is_connected phase) Requests
 make_row side phase reason Beat Heartbeat = then_some (is_connected phase) Beats
@@ -41,7 +53,7 @@ abbrev pub demand_of : MakeRow → Demand
 demand_of Opens = Anything
 demand_of Answers = First OweConnectionResponse
 demand_of StartsBeating = First OweFirstHeartbeat
-demand_of Returns = First OweRetransmissionResponse
+demand_of Resumes = First OweRetransmissionResponse
 demand_of (Resends unit) = First (OweResend unit)
 demand_of Requests = First OweRetransmissionRequest
 demand_of Beats = Nothing
@@ -88,24 +100,22 @@ is_next_sn (m ∷ ms) sn = sn == sn_at (m ∷ ms) (length (m ∷ ms))
 -- the moment lies more than the slack after the deadline
 abbrev pub is_past : Parameters → Option ℕ → ℕ → Bool
 is_past p None moment = false
-is_past p (Some deadline) moment = nat_lt (deadline + p.slack) (moment + 2 ^ 32)
+is_past p (Some deadline) moment = nat_lt (deadline + p.slack) (raised moment)
 
 -- the moment lies more than the slack before the deadline
 abbrev pub is_early : Parameters → Option ℕ → ℕ → Bool
 is_early p None moment = false
-is_early p (Some deadline) moment = nat_lt (moment + 2 ^ 32 + p.slack) deadline
+is_early p (Some deadline) moment = nat_lt (raised moment + p.slack) deadline
 
 abbrev pub is_expired : Why → Bool
 is_expired Expired = true
 is_expired _ = false
 
--- a client that was never answered gives up
-abbrev pub gives_up : EndState → Kind → Bool
-gives_up e kind = is_kind DisconnectionRequest kind && (e.accepted == 0 && (is_client e.side && is_start e.phase))
-
--- CS and CTS are judged: of all but a connection request and the disconnection request of a client that gives up
+-- CS and CTS are judged: of all but a connection request and the disconnection request of a client that gives up, since
+-- it was never answered
 abbrev pub is_judged : EndState → Kind → Bool
-is_judged e kind = not (is_kind ConnectionRequest kind) && not (gives_up e kind)
+is_judged e kind = not (is_kind ConnectionRequest kind)
+    && not (is_kind DisconnectionRequest kind && (e.accepted == 0 && (is_client e.side && is_start e.phase)))
 
 -- CS is the SN of the last accepted PDU
 abbrev pub confirms_last : EndState → ℕ → Bool
@@ -117,7 +127,8 @@ is_there (Some m) n = m == n
 
 -- CTS is the TS of the last accepted PDU, of the last accepted time-relevant one, or of the last handed up
 abbrev pub confirms_a_time : EndState → ℕ → Bool
-confirms_a_time e cts = (not (e.accepted == 0) && cts == e.last_ts) || (is_there e.timed_ts cts || is_there e.handed_ts cts)
+confirms_a_time e cts =
+    (not (e.accepted == 0) && cts == e.last_ts) || (is_there e.timed_ts cts || is_there e.handed_ts cts)
 
 -- the contents of the units offered, in order
 abbrev pub contents : List Made → List (List ℕ)
@@ -125,7 +136,8 @@ contents ms = map (λ (m : Made). content_of m.pdu.body) (filter (λ (m : Made).
 
 -- retransmitted data with other messages than those of its unit
 abbrev pub differs : List Made → Option MakeRow → List ℕ → Bool
-differs made (Some (Resends unit)) content = not (option_map_or (λ (own : List ℕ). bytes_eq own content) (slice_get (contents made) unit) false)
+differs made (Some (Resends unit)) content =
+    not (option_map_or (λ (own : List ℕ). bytes_eq own content) (slice_get (contents made) unit) false)
 differs made _ content = false
 
 abbrev pub row_of : EndState → SafetyPdu → Why → Option MakeRow
@@ -163,7 +175,7 @@ phase_after _ phase = phase
 abbrev pub owed_after : MakeRow → List Owed → List Owed
 owed_after Answers owed = drop 1 owed
 owed_after StartsBeating owed = drop 1 owed
-owed_after Returns owed = drop 1 owed
+owed_after Resumes owed = drop 1 owed
 owed_after (Resends unit) owed = drop 1 owed
 owed_after Requests owed = drop 1 owed
 owed_after Leaves owed = []
@@ -201,7 +213,8 @@ Makes p e x clock why e' = All IsFalse (make_tests p e x clock why) × (e' ≡ a
 -- the number of each of these tests
 abbrev pub make_numbers : List ℕ
 make_numbers =
-    closed ∷ not_allowed ∷ reply_owed ∷ sequence_number ∷ clock_differs ∷ clock_falls ∷ past_deadline ∷ too_early_timeout ∷ confirmed_number ∷ confirmed_time ∷ resend_differs ∷ []
+    closed ∷ not_allowed ∷ reply_owed ∷ sequence_number ∷ clock_differs ∷ clock_falls ∷ past_deadline
+    ∷ too_early_timeout ∷ confirmed_number ∷ confirmed_time ∷ resend_differs ∷ []
 
 -- the first fault of a make
 abbrev pub make_fault : Parameters → EndState → SafetyPdu → ℕ → Why → Option ℕ

@@ -9,7 +9,7 @@ use Rattle.rasta_pdu.specs.declared.quiet_point.Quiet.{Quiet}
 use Rattle.rasta_pdu.specs.declared.quiet_point.QuietEnd.{QuietEnd}
 use Rattle.rasta_end.specs.declared.phase.Phase.{Phase}
 use Rattle.rasta_end.specs.declared.phase.Phase.TheVariants.{Closed, Down, Up}
-use Rattle.rasta_end.specs.State.{EndState, wrapped}
+use Rattle.rasta_end.specs.State.{EndState, raised, wrapped}
 
 -- an end that made, accepted and owes nothing
 abbrev pub fresh_end : Side → Phase → EndState
@@ -37,10 +37,12 @@ fresh_end side phase = record {
 abbrev pub sn_before : ℕ → ℕ
 sn_before sn = (sn + 4294967295) % 2 ^ 32
 
--- the quiet PDU of an end, by what is recorded of it and of its peer: a heartbeat. Nothing judges its CS and CTS; they are
--- those of the other quiet PDU
+-- the quiet PDU of an end, by what is recorded of it and of its peer: a heartbeat. Nothing judges its CS and CTS; they
+-- are those of the other quiet PDU
 abbrev pub quiet_pdu : QuietEnd → QuietEnd → SafetyPdu
-quiet_pdu own other = record { kind = Heartbeat; sn = sn_before own.next_sn; cs = sn_before other.next_sn; ts = wrapped own.clock; cts = wrapped other.clock; body = Empty }
+quiet_pdu own other =
+    record { kind = Heartbeat; sn = sn_before own.next_sn; cs = sn_before other.next_sn; ts = wrapped own.clock;
+      cts = wrapped other.clock; body = Empty }
 
 -- an end at the quiet point: connected, with its quiet PDU made and confirmed and that of its peer accepted
 abbrev pub quiet_end : Side → QuietEnd → QuietEnd → EndState
@@ -53,7 +55,7 @@ quiet_end side own other = record (fresh_end side Up) {
   timed_ts = Some (wrapped other.clock);
   handed_ts = other.handed_ts;
   clock = own.clock;
-  deadline = option_map (λ n. n + 2 ^ 32) own.deadline;
+  deadline = option_map raised own.deadline;
 }
 
 abbrev pub start_by : Option Quiet → Side → EndState

@@ -4,7 +4,7 @@ use Rattle.rasta_pcap.specs.declared.fault.Side.{Side}
 use Rattle.rasta_pcap.specs.declared.fault.Side.TheVariants.{Client, Server}
 use Rattle.rasta_pdu.specs.declared.kind.Kind.{Kind}
 use Rattle.rasta_pdu.specs.declared.kind.Kind.TheVariants.{Heartbeat, Data, RetransmittedData}
-use Rattle.rasta_pdu.specs.Pdu.{SafetyPdu, SafetyBody, Bye, Messages}
+use Rattle.rasta_pdu.specs.Pdu.{SafetyPdu, SafetyBody, Bye, Messages, is_kind}
 use Rattle.rasta_end.specs.declared.owed.Owed.{Owed}
 use Rattle.rasta_end.specs.declared.phase.Phase.{Phase}
 use Rattle.rasta_end.specs.declared.phase.Phase.TheVariants.{Closed, Down, Start, Up, RetrReq, RetrRun}
@@ -32,7 +32,11 @@ pub record EndState : Type 0 where
   pub asks : List ℕ  -- own positions that the requests it answered confirm, in order
   pub owed : List Owed  -- the first is to be made next
   pub clock : ℕ  -- of the last make, in milliseconds
-  pub deadline : Option ℕ  -- moved by 2^32, since it may lie below 0
+  pub deadline : Option ℕ  -- raised, since it may lie below 0
+
+-- a moment as a deadline is kept: moved by 2^32
+abbrev pub raised : ℕ → ℕ
+raised n = n + 2 ^ 32
 
 -- a number as 32 bits carry it
 abbrev pub wrapped : ℕ → ℕ
@@ -98,12 +102,14 @@ is_connected phase = is_up phase || (is_retr_req phase || is_retr_run phase)
 abbrev pub is_active : Phase → Bool
 is_active phase = is_start phase || is_connected phase
 
+abbrev pub is_heartbeat_or_data : Kind → Bool
+is_heartbeat_or_data Heartbeat = true
+is_heartbeat_or_data Data = true
+is_heartbeat_or_data _ = false
+
 -- types by which deadlines are set
 abbrev pub is_timed : Kind → Bool
-is_timed Heartbeat = true
-is_timed Data = true
-is_timed RetransmittedData = true
-is_timed _ = false
+is_timed kind = is_heartbeat_or_data kind || is_kind RetransmittedData kind
 
 abbrev pub carries_unit : Kind → Bool
 carries_unit Data = true

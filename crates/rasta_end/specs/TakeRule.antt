@@ -1,20 +1,32 @@
 -- The take rule: what an end does with a PDU that it takes. The retransmission burst and the deadline.
-use Rattle.std.specs.Prelude.{◌≡◌, ◌⊎◌, ℕ, zero, suc, ◌+◌, ◌-◌, ◌*◌, ◌^◌, Bool, true, false, ◌&&◌, not, if◌then◌else◌, nat_lt, nat_le, ◌==◌, List, [], ◌∷◌, ◌++◌, length, Option, Some, None}
+use Rattle.std.specs.Prelude.{◌≡◌, ◌⊎◌, ℕ, zero, suc, ◌+◌, ◌-◌, ◌*◌, ◌^◌, Bool, true, false, ◌&&◌, not, if◌then◌else◌}
+use Rattle.std.specs.Prelude.{nat_lt, nat_le, ◌==◌, List, [], ◌∷◌, ◌++◌, length, Option, Some, None}
 use Rattle.rasta_pcap.specs.Fault.{fault_of_end, no_memory, reply_owed, past_deadline}
 use Rattle.rasta_pcap.specs.declared.fault.Fault.{Fault}
 use Rattle.rasta_pcap.specs.declared.fault.Side.{Side}
 use Rattle.rasta_pdu.specs.declared.kind.Kind.{Kind}
-use Rattle.rasta_pdu.specs.declared.kind.Kind.TheVariants.{ConnectionResponse, RetransmissionRequest, RetransmissionResponse, Heartbeat, Data, RetransmittedData, ConnectionRequest, DisconnectionRequest}
+use Rattle.rasta_pdu.specs.declared.kind.Kind.TheVariants.{ConnectionResponse, RetransmissionRequest}
+use Rattle.rasta_pdu.specs.declared.kind.Kind.TheVariants.{RetransmissionResponse, Heartbeat, Data, RetransmittedData}
+use Rattle.rasta_pdu.specs.declared.kind.Kind.TheVariants.{ConnectionRequest, DisconnectionRequest}
 use Rattle.rasta_pdu.specs.Params.{Parameters}
 use Rattle.rasta_pdu.specs.Pdu.{SafetyPdu, is_kind}
 use Rattle.rasta_end.specs.declared.phase.Phase.{Phase}
 use Rattle.rasta_end.specs.declared.phase.Phase.TheVariants.{Closed, Start, Up, RetrReq, RetrRun}
 use Rattle.rasta_end.specs.declared.take_row.TakeRow.{TakeRow}
-use Rattle.rasta_end.specs.declared.take_row.TakeRow.TheVariants.{Opened, Answered, FirstHeartbeat, InSequence, ResentInSequence, Gap, GapInRetransmission, Resumed, Requested, RequestedAhead, RequestedAgain, Disconnected}
+use Rattle.rasta_end.specs.declared.take_row.TakeRow.TheVariants.{Opened, Answered, FirstHeartbeat, InSequence}
+use Rattle.rasta_end.specs.declared.take_row.TakeRow.TheVariants.{ResentInSequence, Gap, GapInRetransmission, Resumed}
+use Rattle.rasta_end.specs.declared.take_row.TakeRow.TheVariants.{Requested, RequestedAhead, RequestedWhileAsking}
+use Rattle.rasta_end.specs.declared.take_row.TakeRow.TheVariants.{Disconnected}
 use Rattle.rasta_end.specs.declared.owed.Owed.{Owed}
-use Rattle.rasta_end.specs.declared.owed.Owed.TheVariants.{ConnectionResponse as OweConnectionResponse, FirstHeartbeat as OweFirstHeartbeat, RetransmissionResponse as OweRetransmissionResponse, Resend as OweResend, RetransmissionRequest as OweRetransmissionRequest}
+use Rattle.rasta_end.specs.declared.owed.Owed.TheVariants.{ConnectionResponse as OweConnectionResponse}
+use Rattle.rasta_end.specs.declared.owed.Owed.TheVariants.{FirstHeartbeat as OweFirstHeartbeat}
+use Rattle.rasta_end.specs.declared.owed.Owed.TheVariants.{RetransmissionResponse as OweRetransmissionResponse}
+use Rattle.rasta_end.specs.declared.owed.Owed.TheVariants.{Resend as OweResend}
+use Rattle.rasta_end.specs.declared.owed.Owed.TheVariants.{RetransmissionRequest as OweRetransmissionRequest}
 use Rattle.rasta_end.specs.Units.{units_conveyed}
-use Rattle.rasta_end.specs.State.{EndState, ahead_by, sn_at, kinds, is_owing, is_client, is_closed, is_down, is_start, is_up, is_retr_req, is_retr_run, is_flowing, is_active, is_timed, carries_unit}
+use Rattle.rasta_end.specs.State.{EndState, raised, ahead_by, sn_at, kinds, is_owing, is_client, is_closed, is_down}
+use Rattle.rasta_end.specs.State.{is_start, is_up, is_retr_req, is_retr_run, is_flowing, is_active}
+use Rattle.rasta_end.specs.State.{is_heartbeat_or_data, is_timed, carries_unit}
 use Rattle.rasta_end.specs.MakeRule.{first_that_holds, is_past}
 
 -- how many steps after the next position of the peer the PDU stands, modulo 2^32
@@ -35,12 +47,8 @@ steps_past_confirmed e x = ahead_by x.cs (sn_at e.made e.confirmed)
 abbrev pub is_valid : EndState → SafetyPdu → Bool
 is_valid e x = nat_lt (steps_past_confirmed e x) (ahead_by (sn_at e.made (length e.made)) (sn_at e.made e.confirmed))
 
-abbrev pub is_heartbeat_or_data : Kind → Bool
-is_heartbeat_or_data Heartbeat = true
-is_heartbeat_or_data Data = true
-is_heartbeat_or_data _ = false
-
--- the take table: phase and PDU of each row; next: the PDU is in sequence, ahead: it stands ahead, valid: its CS is valid
+-- the take table: phase and PDU of each row; next: the PDU is in sequence, ahead: it stands ahead, valid: its CS is
+-- valid
 abbrev pub take_rows : Side → Phase → Kind → Bool → Bool → Bool → List (Bool × TakeRow)
 take_rows side phase kind next ahead valid =
     (is_down phase && is_kind ConnectionRequest kind, Opened)
@@ -53,14 +61,14 @@ take_rows side phase kind next ahead valid =
     ∷ (is_retr_req phase && (is_kind RetransmissionResponse kind && valid), Resumed)
     ∷ (is_flowing phase && (is_kind RetransmissionRequest kind && (next && valid)), Requested)
     ∷ (is_flowing phase && (is_kind RetransmissionRequest kind && (ahead && valid)), RequestedAhead)
-    ∷ (is_retr_req phase && (is_kind RetransmissionRequest kind && (ahead && valid)), RequestedAgain)
+    ∷ (is_retr_req phase && (is_kind RetransmissionRequest kind && (ahead && valid)), RequestedWhileAsking)
     ∷ (is_active phase && is_kind DisconnectionRequest kind, Disconnected)
     ∷ []
 
 -- the deadline that a confirmed time sets: T_max after the greatest number that is not above the clock and congruent
--- to it modulo 2^32; moved by 2^32
+-- to it modulo 2^32; raised
 abbrev pub deadline_from : Parameters → ℕ → ℕ → ℕ
-deadline_from p clock cts = clock + 2 ^ 32 - ahead_by clock cts + p.t_max
+deadline_from p clock cts = raised clock - ahead_by clock cts + p.t_max
 
 -- the PDU is now the last accepted one, at this position
 abbrev pub note_accepted : ℕ → EndState → SafetyPdu → EndState
@@ -84,11 +92,9 @@ enter phase e = record e { phase = phase }
 abbrev pub owe : List Owed → EndState → EndState
 owe owed e = record e { owed = owed }
 
-abbrev pub note_ask : ℕ → EndState → EndState
-note_ask position e = record e { asks = e.asks ++ position ∷ [] }
-
 abbrev pub hand_up : ℕ → EndState → SafetyPdu → EndState
-hand_up position e x = record e { handed = e.handed ++ position ∷ []; handed_pdus = e.handed_pdus ++ x ∷ []; handed_ts = Some x.ts }
+hand_up position e x =
+    record e { handed = e.handed ++ position ∷ []; handed_pdus = e.handed_pdus ++ x ∷ []; handed_ts = Some x.ts }
 
 -- accepts the PDU at the position of its SN, from the next one on
 abbrev pub accept : Parameters → EndState → SafetyPdu → EndState
@@ -102,12 +108,20 @@ resends unit (suc count) = OweResend unit ∷ resends (suc unit) count
 -- the retransmission burst that a request owes which confirms this own position
 abbrev pub burst : EndState → ℕ → List Owed
 burst e position =
-    OweRetransmissionResponse ∷ resends (units_conveyed e.asks (kinds e.made) position) (e.offered - units_conveyed e.asks (kinds e.made) position)
+    OweRetransmissionResponse ∷ resends (units_conveyed e.asks (kinds e.made) position)
+      (e.offered - units_conveyed e.asks (kinds e.made) position)
+
+-- answers a request that confirms this own position
+abbrev pub answer_ask : ℕ → EndState → EndState
+answer_ask position e = owe (burst e position) (record e { asks = e.asks ++ position ∷ [] })
+
+abbrev pub owe_too : Owed → EndState → EndState
+owe_too o e = owe (e.owed ++ o ∷ []) e
 
 abbrev pub hand_up_unit : Kind → EndState → ℕ → SafetyPdu → EndState
 hand_up_unit kind e position x = if carries_unit kind then hand_up position e x else e
 
--- the take table: effect of each row
+-- the take table: effect of each row. A unit is handed up of a PDU in sequence alone, which has the next position
 abbrev pub effect : Parameters → TakeRow → EndState → SafetyPdu → EndState
 effect p Opened e x = owe (OweConnectionResponse ∷ []) (enter Start (note_accepted 0 e x))
 effect p Answered e x = owe (OweFirstHeartbeat ∷ []) (enter Up (confirm (position_confirmed e x) (note_accepted 0 e x)))
@@ -117,9 +131,10 @@ effect p ResentInSequence e x = hand_up_unit x.kind (accept p e x) e.accepted x
 effect p Gap e x = owe (OweRetransmissionRequest ∷ []) (enter RetrReq e)
 effect p GapInRetransmission e x = owe (OweRetransmissionRequest ∷ []) (enter RetrReq e)
 effect p Resumed e x = enter RetrRun (accept p e x)
-effect p Requested e x = owe (burst e (position_confirmed e x)) (note_ask (position_confirmed e x) (accept p e x))
-effect p RequestedAhead e x = owe (burst e (position_confirmed e x) ++ OweRetransmissionRequest ∷ []) (enter RetrReq (note_ask (position_confirmed e x) (confirm (position_confirmed e x) e)))
-effect p RequestedAgain e x = owe (burst e (position_confirmed e x)) (note_ask (position_confirmed e x) (confirm (position_confirmed e x) e))
+effect p Requested e x = answer_ask (position_confirmed e x) (accept p e x)
+effect p RequestedAhead e x = owe_too OweRetransmissionRequest
+    (enter RetrReq (answer_ask (position_confirmed e x) (confirm (position_confirmed e x) e)))
+effect p RequestedWhileAsking e x = answer_ask (position_confirmed e x) (confirm (position_confirmed e x) e)
 effect p Disconnected e x = enter Closed e
 
 abbrev pub take_row : Parameters → EndState → SafetyPdu → Option TakeRow
@@ -135,7 +150,8 @@ after_take p e x = effect_by p (take_row p e x) e x
 -- why an end may not take anything at this moment, in the order in which it is judged
 abbrev pub take_fault : Parameters → EndState → ℕ → Option ℕ
 take_fault p e moment =
-    if is_closed e.phase then None else first_that_holds ((is_owing e.owed, reply_owed) ∷ (is_past p e.deadline moment, past_deadline) ∷ [])
+    if is_closed e.phase then None
+    else first_that_holds ((is_owing e.owed, reply_owed) ∷ (is_past p e.deadline moment, past_deadline) ∷ [])
 
 -- the take rule: this end takes this PDU at this moment, and is that end afterwards
 abbrev pub Takes : Parameters → EndState → SafetyPdu → ℕ → EndState → Type 0
@@ -153,7 +169,7 @@ adds_to_a_list (Some InSequence) kind = carries_unit kind
 adds_to_a_list (Some ResentInSequence) kind = carries_unit kind
 adds_to_a_list (Some Requested) kind = true
 adds_to_a_list (Some RequestedAhead) kind = true
-adds_to_a_list (Some RequestedAgain) kind = true
+adds_to_a_list (Some RequestedWhileAsking) kind = true
 adds_to_a_list _ kind = false
 
 -- what a refused take answers: the first fault, else out of memory, which only a PDU that adds to a list can meet

@@ -3,7 +3,7 @@ ghost use Rattle.std.specs.Prelude.{◌≡◌, ◌≤◌, ◌<◌, ◌+◌, ◌^
 ghost use Rattle.rasta_pcap.specs.declared.fault.Side.TheVariants.{Client, Server};
 ghost use Rattle.rasta_end.specs.declared.phase.Phase.TheVariants.{Closed, Down};
 ghost use Rattle.rasta_end.specs.State;
-ghost use Rattle.rasta_end.specs.State.{first_sn, kinds};
+ghost use Rattle.rasta_end.specs.State.{first_sn, kinds, raised};
 ghost use Rattle.rasta_end.specs.Units.{units_conveyed};
 ghost use Rattle.rasta_end.specs.Starts;
 ghost use Rattle.rasta_end.specs.Starts.{fresh_end, quiet_end, start_of};
@@ -63,7 +63,7 @@ fn sn_before(sn: u32) -> u32
 }
 
 fn moved_deadline(deadline: Option<u64>) -> Option<u128>
-    ensures value { result ≡ option_map (λ n. n + 2 ^ 32) deadline }
+    ensures value { result ≡ option_map raised deadline }
     ensures bound { IfSome result (λ d. d < 2 ^ 66) }
 {
     match deadline {

@@ -43,11 +43,11 @@ pub struct MadePdus<'a> {
 }
 
 impl<'a> Model for MadePdus<'a> {
-    ghost use Rattle.rasta_end.specs.Kept.{OwnPdus, all_made, AreOwn};
+    ghost use Rattle.rasta_end.specs.Kept.{OwnPdus, made_inside, AreOwn};
 
     ghost Value = { OwnPdus };
 
-    ghost view = { λ o. record { quiet = o.quiet; made = all_made o; asks = o.asks.items } };
+    ghost view = { λ o. record { quiet = o.quiet; made = made_inside o; asks = o.asks.items } };
 
     ghost invariant = { AreOwn };
 }

@@ -20,7 +20,7 @@ pub enum MakeRow {
     /// The first heartbeat of the client.
     StartsBeating,
     /// A retransmission response.
-    Returns,
+    Resumes,
     /// Retransmitted data, of the unit of this number.
     Resends(u32),
     /// A retransmission request.
@@ -59,7 +59,7 @@ impl MakeRow {
                 (is_client(side) && phase.is_up()).then_some(MakeRow::StartsBeating)
             }
             (Why::Reply, Kind::RetransmissionResponse) => {
-                phase.is_connected().then_some(MakeRow::Returns)
+                phase.is_connected().then_some(MakeRow::Resumes)
             }
             (Why::Again(unit), Kind::RetransmittedData) => {
                 phase.is_connected().then_some(MakeRow::Resends(unit))

@@ -79,7 +79,7 @@ fn owes_after(row: MakeRow, owes: Owes) -> Owes
     match row {
         MakeRow::Answers => owes.without_first(),
         MakeRow::StartsBeating => owes.without_first(),
-        MakeRow::Returns => owes.without_first(),
+        MakeRow::Resumes => owes.without_first(),
         MakeRow::Resends(_) => owes.without_first(),
         MakeRow::Requests => owes.without_first(),
         MakeRow::Leaves => Owes::nothing(),

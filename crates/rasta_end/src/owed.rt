@@ -50,7 +50,7 @@ impl Demand {
             MakeRow::Opens => Demand::Anything,
             MakeRow::Answers => Demand::First(Owed::ConnectionResponse),
             MakeRow::StartsBeating => Demand::First(Owed::FirstHeartbeat),
-            MakeRow::Returns => Demand::First(Owed::RetransmissionResponse),
+            MakeRow::Resumes => Demand::First(Owed::RetransmissionResponse),
             MakeRow::Resends(unit) => Demand::First(Owed::Resend(unit as usize)),
             MakeRow::Requests => Demand::First(Owed::RetransmissionRequest),
             MakeRow::Beats => Demand::Nothing,

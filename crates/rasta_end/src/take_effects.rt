@@ -1,5 +1,5 @@
 //! What a PDU that is taken changes, one thing at a time.
-ghost use Rattle.std.specs.Prelude.{◌≡◌, ◌≤◌, ◌<◌, ◌+◌, ◌^◌, length, OnOk, OnErr};
+ghost use Rattle.std.specs.Prelude.{◌≡◌, ◌≤◌, ◌<◌, ◌+◌, ◌^◌, ◌∷◌, ◌++◌, [], length, OnOk, OnErr};
 ghost use Rattle.rasta_pdu.specs.Pdu.{value_of};
 ghost use Rattle.rasta_end.specs.State.{kinds};
 ghost use Rattle.rasta_end.specs.TakeRule;
@@ -57,7 +57,7 @@ impl<'a> End<'a> {
     }
 
     pub(crate) fn note_ask(&mut self, position: usize) -> Result<(), AllocError>
-        ensures ok { OnOk result (self.new ≡ record self.old { state = TakeRule.note_ask position self.old.state }) }
+        ensures ok { OnOk result (self.new ≡ record self.old { state = record self.old.state { asks = self.old.state.asks ++ position ∷ [] } }) }
         ensures responses { responses_in (kinds self.old.state.made) ≤ length self.old.state.asks }
         ensures err { OnErr result (self.new ≡ self.old) }
     {

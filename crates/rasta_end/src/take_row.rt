@@ -32,7 +32,7 @@ pub enum TakeRow {
     /// A retransmission request ahead.
     RequestedAhead,
     /// A retransmission request ahead, while one's own is unanswered.
-    RequestedAgain,
+    RequestedWhileAsking,
     /// A disconnection request.
     Disconnected,
 }
@@ -101,7 +101,7 @@ impl TakeRow {
                 standing.row(TakeRow::Requested, TakeRow::RequestedAhead)
             }
             (Phase::RetrReq, Kind::RetransmissionRequest) => {
-                (ahead && valid).then_some(TakeRow::RequestedAgain)
+                (ahead && valid).then_some(TakeRow::RequestedWhileAsking)
             }
             (
                 Phase::Start | Phase::Up | Phase::RetrReq | Phase::RetrRun,

@@ -8,7 +8,7 @@ ghost use Rattle.rasta_end.specs.TakeRule.{take_row, wants_valid, effect, IsTake
 ghost use Rattle.rasta_end.specs.Kept.{owed_list, owed_request};
 ghost use Rattle.rasta_end.specs.declared.owed.Owed.TheVariants.{RetransmissionResponse as OweRetransmissionResponse, RetransmissionRequest as OweRetransmissionRequest};
 ghost use Rattle.rasta_end.specs.declared.phase.Phase.TheVariants.{RetrReq};
-ghost use Rattle.rasta_end.specs.declared.take_row.TakeRow.TheVariants.{Opened, Answered, FirstHeartbeat, InSequence, ResentInSequence, Gap, GapInRetransmission, Resumed, Requested, RequestedAhead, RequestedAgain, Disconnected};
+ghost use Rattle.rasta_end.specs.declared.take_row.TakeRow.TheVariants.{Opened, Answered, FirstHeartbeat, InSequence, ResentInSequence, Gap, GapInRetransmission, Resumed, Requested, RequestedAhead, RequestedWhileAsking, Disconnected};
 
 use crate::deadline::is_past;
 use crate::end::End;
@@ -144,7 +144,7 @@ impl<'a> End<'a> {
 
     fn requested_again(&mut self, pdu: &Pdu<'a>) -> Result<(), AllocError>
         requires valid { TakeRule.is_valid self.old.state (value_of pdu.now).safety ≡ true }
-        ensures ok { OnOk result (self.new ≡ record self.old { state = effect self.old.params RequestedAgain self.old.state (value_of pdu.now).safety }) }
+        ensures ok { OnOk result (self.new ≡ record self.old { state = effect self.old.params RequestedWhileAsking self.old.state (value_of pdu.now).safety }) }
         ensures err { OnErr result (self.new ≡ self.old) }
     {
         let position = self.position_confirmed(pdu);
@@ -183,7 +183,7 @@ impl<'a> End<'a> {
             TakeRow::Resumed => self.accept_and_enter(pdu, Phase::RetrRun),
             TakeRow::Requested => return self.requested(pdu),
             TakeRow::RequestedAhead => return self.requested_ahead(pdu),
-            TakeRow::RequestedAgain => return self.requested_again(pdu),
+            TakeRow::RequestedWhileAsking => return self.requested_again(pdu),
             TakeRow::Disconnected => self.enter(Phase::Closed),
         }
         Ok(())

@@ -1,6 +1,7 @@
 -- MD4 (RFC 1320) as a function on lists of numbers, from start words of the caller's choice.
 -- A byte is a number below 256 and a word one below 2 ^ 32. A section is one of the RFC's.
-use Rattle.std.specs.Prelude.{ℕ, ◌+◌, ◌-◌, ◌*◌, ◌/◌, ◌%◌, ◌^◌, List, [], ◌∷◌, ◌++◌, length, drop, map, fold, replicate, slice_index, bit_and, bit_or, bit_xor}
+use Rattle.std.specs.Prelude.{ℕ, ◌+◌, ◌-◌, ◌*◌, ◌/◌, ◌%◌, ◌^◌, List, [], ◌∷◌, ◌++◌, length, drop, map, fold, replicate}
+use Rattle.std.specs.Prelude.{slice_index, bit_and, bit_or, bit_xor}
 use Rattle.std.specs.Int.{w32, bit_not, rotate_left}
 use Rattle.std.specs.List.{flat_map, range_with_len}
 use Rattle.byteorder.specs.Endian.{little_bytes, little_number}

@@ -6,7 +6,8 @@ use Rattle.rasta_udp.specs.declared.channel.Endpoint.{Endpoint}
 
 -- the text of an endpoint of these bytes and this port
 unfoldable pub endpoint_text : (a b c d port : ℕ) → List ℕ
-endpoint_text a b c d port = decimal a ++ (46 ∷ (decimal b ++ (46 ∷ (decimal c ++ (46 ∷ (decimal d ++ (58 ∷ decimal port)))))))
+endpoint_text a b c d port =
+    decimal a ++ (46 ∷ (decimal b ++ (46 ∷ (decimal c ++ (46 ∷ (decimal d ++ (58 ∷ decimal port)))))))
 
 -- four texts with points between them
 pub record Four : Type 0 where

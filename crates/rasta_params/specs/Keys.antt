@@ -1,8 +1,10 @@
 -- The parameters of a document, key by key.
-use Rattle.std.specs.Prelude.{◌≡◌, ◌⊎◌, ◌≤◌, IfSome, ℕ, ◌+◌, pos, ℤ, List, [], ◌∷◌, Bool, true, ◌&&◌, ◌||◌, ◌==◌, nat_le, if◌then◌else◌, Option, Some, None, is_some, Result, Ok, Err, codes}
+use Rattle.std.specs.Prelude.{◌≡◌, ◌⊎◌, ◌≤◌, IfSome, ℕ, ◌+◌, pos, ℤ, List, [], ◌∷◌, Bool, true, ◌&&◌, ◌||◌, ◌==◌}
+use Rattle.std.specs.Prelude.{nat_le, if◌then◌else◌, Option, Some, None, is_some, Result, Ok, Err, codes}
 use Rattle.std.specs.List.{list_any}
 use Rattle.std.specs.Str.{bytes_eq, is_utf8}
-use Rattle.toml.specs.Data.{Data, Items, item, no_items, Members, member, no_members, get_member, as_array, as_integer, as_str, as_table}
+use Rattle.toml.specs.Data.{Data, Items, item, no_items, Members, member, no_members, get_member, as_array, as_integer}
+use Rattle.toml.specs.Data.{as_str, as_table}
 use Rattle.toml.specs.Parse.{parse_document}
 use Rattle.rasta_pcap.specs.declared.fault.Fault.{Fault}
 use Rattle.rasta_pcap.specs.Fault.{fault_at, no_memory, not_toml, missing_key, bad_value}
@@ -61,8 +63,8 @@ in_range low high _ = None
 abbrev pub whole : ℕ → ℕ → Data → Option ℕ
 whole low high d = in_range low high (as_integer d)
 
-unfoldable pub number_at : ℕ → List ℕ → ℕ → ℕ → Members → Result ℕ Fault
-number_at place key low high ms = required place (whole low high) (get_member key ms)
+unfoldable pub number_of_key : ℕ → List ℕ → ℕ → ℕ → Members → Result ℕ Fault
+number_of_key place key low high ms = required place (whole low high) (get_member key ms)
 
 unfoldable pub optional_at : ℕ → List ℕ → ℕ → ℕ → ℕ → Members → Result ℕ Fault
 optional_at place key low high missing ms = optional place missing (whole low high) (get_member key ms)
@@ -140,8 +142,8 @@ words_text_of (Some text) = words_of text
 -- one end: presence and value of each key
 unfoldable pub quiet_end_in : Members → Result QuietEnd Fault
 quiet_end_in ms = do
-  next_sn ← number_at 13 (codes "next_sn") 0 4294967295 ms
-  clock ← number_at 13 (codes "clock") 0 most_clock ms
+  next_sn ← number_of_key 13 (codes "next_sn") 0 4294967295 ms
+  clock ← number_of_key 13 (codes "clock") 0 most_clock ms
   deadline ← if_any_at 13 (codes "deadline") 0 most_clock ms
   handed_ts ← if_any_at 13 (codes "handed_ts") 0 4294967295 ms
   Ok (record { next_sn = next_sn; clock = clock; deadline = deadline; handed_ts = handed_ts })
@@ -184,10 +186,12 @@ ends_of of_client of_server = do
 -- the quiet point has the keys of both ends alone, and each end its own
 abbrev pub have_quiet_keys : Members → Data → Data → Bool
 have_quiet_keys ms of_client of_server =
-    are_among channel_keys ms && has_keys_among quiet_keys (as_table of_client) && has_keys_among quiet_keys (as_table of_server)
+    are_among channel_keys ms && has_keys_among quiet_keys (as_table of_client)
+    && has_keys_among quiet_keys (as_table of_server)
 
 abbrev pub are_in_time : ℕ → Quiet → Bool
-are_in_time slack q = is_in_time slack q.client.clock q.client.deadline && is_in_time slack q.server.clock q.server.deadline
+are_in_time slack q =
+    is_in_time slack q.client.clock q.client.deadline && is_in_time slack q.server.clock q.server.deadline
 
 -- presence of both ends; their keys; keys of other names; and last the clocks
 unfoldable pub quiet_in : ℕ → Members → Result Quiet Fault
@@ -219,13 +223,14 @@ rfc_words = 0x67452301 ∷ 0xefcdab89 ∷ 0x98badcfe ∷ 0x10325476 ∷ []
 
 abbrev pub known_keys : List (List ℕ)
 known_keys = codes "client_id" ∷ codes "server_id" ∷ codes "code_length" ∷ codes "md4_start" ∷ codes "check_length"
-    ∷ codes "n_sendmax" ∷ codes "t_max" ∷ codes "slack" ∷ codes "first_record" ∷ codes "last_record" ∷ codes "channel" ∷ codes "quiet" ∷ []
+    ∷ codes "n_sendmax" ∷ codes "t_max" ∷ codes "slack" ∷ codes "first_record" ∷ codes "last_record" ∷ codes "channel"
+    ∷ codes "quiet" ∷ []
 
 -- the ids, which are not the same
 unfoldable pub ids_of : Members → Result Ids Fault
 ids_of ms = do
-  client_id ← number_at 1 (codes "client_id") 0 4294967295 ms
-  server_id ← number_at 2 (codes "server_id") 0 4294967295 ms
+  client_id ← number_of_key 1 (codes "client_id") 0 4294967295 ms
+  server_id ← number_of_key 2 (codes "server_id") 0 4294967295 ms
   if client_id == server_id then bad_at 2 else Ok (record { client_id = client_id; server_id = server_id })
 
 -- the length of a safety code, in bytes
@@ -258,9 +263,9 @@ layout_of ms = do
 
 unfoldable pub limits_of : Members → Result Limits Fault
 limits_of ms = do
-  n_sendmax ← number_at 6 (codes "n_sendmax") 1 65535 ms
-  t_max ← number_at 7 (codes "t_max") 1 60000 ms
-  slack ← number_at 8 (codes "slack") 0 1000 ms
+  n_sendmax ← number_of_key 6 (codes "n_sendmax") 1 65535 ms
+  t_max ← number_of_key 7 (codes "t_max") 1 60000 ms
+  slack ← number_of_key 8 (codes "slack") 0 1000 ms
   Ok (record { n_sendmax = n_sendmax; t_max = t_max; slack = slack })
 
 -- the window of records: the whole file, where nothing else is said

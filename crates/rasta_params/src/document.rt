@@ -5,7 +5,7 @@ ghost use Rattle.rasta_pdu.specs.Params.{AreChannels, AreLengths, AreLimits, IsQ
 ghost use Rattle.std.specs.List.{list_all};
 ghost use Rattle.toml.specs.Data.{as_array, as_integer, as_table};
 ghost use Rattle.toml.specs.View.{items_view, table_view, view};
-ghost use Rattle.rasta_params.specs.Keys.{ReadsParameters, are_among, are_few_tables, channel_in, channel_of, channels_at, channels_in, check_length, check_length_at, code_length, code_length_at, endpoint_at, few_tables, ids_of, known_keys, known_of, layout_of, limits_of, md4_start_at, number_at, parameters_of, parameters_with, window_of};
+ghost use Rattle.rasta_params.specs.Keys.{ReadsParameters, are_among, are_few_tables, channel_in, channel_of, channels_at, channels_in, check_length, check_length_at, code_length, code_length_at, endpoint_at, few_tables, ids_of, known_keys, known_of, layout_of, limits_of, md4_start_at, number_of_key, parameters_of, parameters_with, window_of};
 
 use crate::endpoint::endpoint_in;
 use crate::key_values::{has_keys_among, number, optional, value_at};
@@ -145,21 +145,21 @@ fn read_layout(table: &Table) -> Result<Layout, Fault>
 }
 
 fn read_n_sendmax(table: &Table) -> Result<u32, Fault>
-    ensures value { result ≡ number_at 6 (codes "n_sendmax") 1 65535 (table_view table.now) }
+    ensures value { result ≡ number_of_key 6 (codes "n_sendmax") 1 65535 (table_view table.now) }
     ensures range { IfOk result (λ n. (1 ≤ n) × (n ≤ 65535)) }
 {
     number(table, 6, "n_sendmax", 1, 65535)
 }
 
 fn read_t_max(table: &Table) -> Result<u32, Fault>
-    ensures value { result ≡ number_at 7 (codes "t_max") 1 60000 (table_view table.now) }
+    ensures value { result ≡ number_of_key 7 (codes "t_max") 1 60000 (table_view table.now) }
     ensures range { IfOk result (λ n. (1 ≤ n) × (n ≤ 60000)) }
 {
     number(table, 7, "t_max", 1, 60000)
 }
 
 fn read_slack(table: &Table) -> Result<u32, Fault>
-    ensures value { result ≡ number_at 8 (codes "slack") 0 1000 (table_view table.now) }
+    ensures value { result ≡ number_of_key 8 (codes "slack") 0 1000 (table_view table.now) }
     ensures range { IfOk result (λ n. n ≤ 1000) }
 {
     number(table, 8, "slack", 0, 1000)

@@ -6,7 +6,7 @@ ghost use Rattle.std.specs.Str.{bytes_eq};
 ghost use Rattle.toml.specs.Data.{get_member};
 ghost use Rattle.toml.specs.View.{table_view, view};
 ghost use Rattle.rasta_pdu.specs.Params.{most_clock};
-ghost use Rattle.rasta_params.specs.Keys.{are_among, if_any_at, number_at, optional_at, or_bad, whole};
+ghost use Rattle.rasta_params.specs.Keys.{are_among, if_any_at, number_of_key, optional_at, or_bad, whole};
 ghost use Rattle.rasta_params.specs.Stored.{texts_of};
 
 use rasta_pdu::Fault;
@@ -44,9 +44,9 @@ fn checked(value: &Value, place: u32, low: u32, high: u32) -> Result<u32, Fault>
 }
 
 /// The whole number at a key that has to be there. The place is the key's number.
-#[tactic(auto, unfolding(crate::specs::Keys::number_at))]
+#[tactic(auto, unfolding(crate::specs::Keys::number_of_key))]
 pub fn number(table: &Table, place: u32, key: &str, low: u32, high: u32) -> Result<u32, Fault>
-    ensures value { result ≡ number_at place key.now low high (table_view table.now) }
+    ensures value { result ≡ number_of_key place key.now low high (table_view table.now) }
     ensures low { IfOk result (λ n. low ≤ n) }
     ensures high { IfOk result (λ n. n ≤ high) }
 {
@@ -112,9 +112,9 @@ fn clock_in(value: &Value) -> Option<u64>
 }
 
 /// The clock at a key that has to be there.
-#[tactic(auto, unfolding(crate::specs::Keys::number_at))]
+#[tactic(auto, unfolding(crate::specs::Keys::number_of_key))]
 pub fn clock(table: &Table, place: u32, key: &str) -> Result<u64, Fault>
-    ensures value { result ≡ number_at place key.now 0 most_clock (table_view table.now) }
+    ensures value { result ≡ number_of_key place key.now 0 most_clock (table_view table.now) }
     ensures most { IfOk result (λ n. n ≤ most_clock) }
 {
     match value_at(table, key) {

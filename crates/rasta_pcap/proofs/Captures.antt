@@ -6,20 +6,20 @@ use Rattle.std.specs.List.{flat_map, AllByRecursion, range_with_len}
 use Rattle.rasta_pcap.specs.declared.fault.Fault.{Fault}
 use Rattle.rasta_pcap.specs.declared.pcap.Endianness.{Endianness}
 use Rattle.rasta_pcap.specs.Fault.{fault_at}
-use Rattle.rasta_pcap.specs.Capture.{Cursor, cursor_at, Entry, IsEntry, IsHeader, entry_bytes, captured_length, max_records, max_captured, Numbered, Reading, opening, next, cursor_after, next_bytes, next_length, reading, reading_opened, reading_of, with_record, read_step, bytes_of, IsCapture, IsRefused}
+use Rattle.rasta_pcap.specs.Capture.{FileCursor, cursor_at, RecordEntry, IsEntry, IsHeader, entry_bytes, captured_length, max_records, max_captured, Numbered, Reading, opening, next, cursor_after, next_bytes, next_length, reading, reading_opened, reading_of, with_record, read_step, bytes_of, IsCapture, IsRefusedFile}
 use Rattle.rasta_pcap.proofs.Steps.{reading-record, reading-end, reading-fault, reading-none_left, reading_of-opened, reading_of-refused, IsNextEntry, next-is_next_entry, next-found, next-end, next-nil, next-fault_place}
 use Rattle.rasta_pcap.proofs.Headers.{at_start, opening-header, opening-is_header, opening-fault_place}
 
 -- From the bytes to the relation.
 
 -- the next record as it stands in the file
-pub record NextEntry (c : Cursor) (bytes : List ℕ) : Type 0 where
-  pub entry : Entry
+pub record NextEntry (c : FileCursor) (bytes : List ℕ) : Type 0 where
+  pub entry : RecordEntry
   pub is_entry : IsEntry c.order entry
   pub front : c.rest ≡ entry_bytes entry ++ (cursor_after c).rest
   pub bytes_are : bytes ≡ entry.bytes
 
-pub next_entry : (c : Cursor) (r : Numbered) → IsNextEntry c r → NextEntry c r.1
+pub next_entry : (c : FileCursor) (r : Numbered) → IsNextEntry c r → NextEntry c r.1
 next_entry c r h =
     let captured = next_length c in
     let after = drop 16 c.rest in
@@ -34,16 +34,16 @@ next_entry c r h =
 
 -- bytes that are these records, each as it stands in the file, and what is left after them
 pub record IsCut (order : Endianness) (bytes : List ℕ) (records : List (List ℕ)) (count : ℕ) (left : List ℕ) : Type 0 where
-  pub entries : List Entry
+  pub entries : List RecordEntry
   pub each : AllByRecursion (IsEntry order) entries
   pub whole : bytes ≡ flat_map entry_bytes entries ++ left
-  pub bytes_are : records ≡ map (λ (e : Entry). e.bytes) entries
+  pub bytes_are : records ≡ map (λ (e : RecordEntry). e.bytes) entries
   pub count_is : length entries ≡ count
 
 nothing_cut : (order : Endianness) (bytes : List ℕ) → IsCut order bytes [] 0 bytes
 nothing_cut order bytes = record { entries = []; each = tt; whole = refl; bytes_are = refl; count_is = refl }
 
-one_more_cut : (c : Cursor) (bytes : List ℕ) (records : List (List ℕ)) (count : ℕ) (left : List ℕ) → NextEntry c bytes
+one_more_cut : (c : FileCursor) (bytes : List ℕ) (records : List (List ℕ)) (count : ℕ) (left : List ℕ) → NextEntry c bytes
     → IsCut c.order (cursor_after c).rest records count left → IsCut c.order c.rest (bytes ∷ records) (suc count) left
 one_more_cut c bytes records count left f h = record {
   entries = f.entry ∷ h.entries;
@@ -55,24 +55,24 @@ one_more_cut c bytes records count left f h = record {
 }
 
 -- how a reading ended
-abbrev Ending : ℕ → Cursor → Option Fault → ℕ → List ℕ → Type 0
+abbrev Ending : ℕ → FileCursor → Option Fault → ℕ → List ℕ → Type 0
 Ending limit c None count left = (count ≤ limit) × ((left ≡ []) ⊎ (count ≡ limit))
 Ending limit c (Some f) count left = (count < limit) × (next (cursor_at c.order left (c.count + count)) ≡ Err f)
 
-record IsRead (limit : ℕ) (c : Cursor) (r : Reading) : Type 0 where
+record IsRead (limit : ℕ) (c : FileCursor) (r : Reading) : Type 0 where
   left : List ℕ
   cut : IsCut c.order c.rest (bytes_of r) (length r.records) left
   ends : Ending limit c r.fault (length r.records) left
   numbers : map (λ (n : Numbered). n.0) r.records ≡ range_with_len (c.count + 1) (length r.records)
 
-ending-after : (limit : ℕ) (c : Cursor) (o : Option Fault) (count : ℕ) (left : List ℕ) → Ending limit (cursor_after c) o count left
+ending-after : (limit : ℕ) (c : FileCursor) (o : Option Fault) (count : ℕ) (left : List ℕ) → Ending limit (cursor_after c) o count left
     → Ending (suc limit) c o (suc count) left
 ending-after limit c None count left h = (let w = h.0 in omega arith, elim h.1 [ inl x ↦ inl x | inr x ↦ inr (ap suc x) ])
 ending-after limit c (Some f) count left h =
     let shape : c.count + suc count ≡ c.count + 1 + count = omega arith in
     (let w = h.0 in omega arith, ap (λ n. next (cursor_at c.order left n)) shape ∙ h.1)
 
-read-by_outcome : (limit : ℕ) (c : Cursor) (o : Result (Option Numbered) Fault) → next c ≡ o
+read-by_outcome : (limit : ℕ) (c : FileCursor) (o : Result (Option Numbered) Fault) → next c ≡ o
     → IsRead limit (cursor_after c) (reading limit (cursor_after c)) → IsRead (suc limit) c (read_step o (reading limit (cursor_after c)))
 read-by_outcome limit c (Err f) e more =
     let here : c.count + 0 ≡ c.count = omega arith in record {
@@ -93,7 +93,7 @@ read-by_outcome limit c (Ok (Some r)) e more =
           ∙ ap (λ ns. (c.count + 1) ∷ ns) more.numbers;
     }
 
-read-is : (limit : ℕ) (c : Cursor) → IsRead limit c (reading limit c)
+read-is : (limit : ℕ) (c : FileCursor) → IsRead limit c (reading limit c)
 unfolding reading
 read-is zero c =
     record { left = c.rest; cut = nothing_cut c.order c.rest; ends = (omega arith, inr refl); numbers = refl }
@@ -102,11 +102,11 @@ read-is (suc limit) c = read-by_outcome limit c (next c) refl (read-is limit (cu
 -- From the relation to the bytes.
 
 -- records with their numbers, after so many
-abbrev numbered : ℕ → List Entry → List Numbered
+abbrev numbered : ℕ → List RecordEntry → List Numbered
 numbered count [] = []
 numbered count (e ∷ es) = (count + 1, e.bytes) ∷ numbered (count + 1) es
 
-bytes-numbered : (count : ℕ) (entries : List Entry) → map (λ (n : Numbered). n.1) (numbered count entries) ≡ map (λ (e : Entry). e.bytes) entries
+bytes-numbered : (count : ℕ) (entries : List RecordEntry) → map (λ (n : Numbered). n.1) (numbered count entries) ≡ map (λ (e : RecordEntry). e.bytes) entries
 bytes-numbered count [] = refl
 bytes-numbered count (e ∷ es) = ap (λ rs. e.bytes ∷ rs) (bytes-numbered (count + 1) es)
 
@@ -116,12 +116,12 @@ records_before records more = record { records = records ++ more.records; fault 
 abbrev before : Numbered → Result (Option Numbered) Fault
 before r = Ok (Some r)
 
-pub record IsNext (c : Cursor) (bytes : List ℕ) (after : Cursor) : Type 0 where
+pub record IsNext (c : FileCursor) (bytes : List ℕ) (after : FileCursor) : Type 0 where
   pub found : next c ≡ Ok (Some (c.count + 1, bytes))
   pub after_is : cursor_after c ≡ after
 
 -- a record before more bytes is found there
-pub next-entry : (order : Endianness) (e : Entry) (more : List ℕ) (count : ℕ) → IsEntry order e → count < max_records
+pub next-entry : (order : Endianness) (e : RecordEntry) (more : List ℕ) (count : ℕ) → IsEntry order e → count < max_records
     → IsNext (cursor_at order (entry_bytes e ++ more) count) e.bytes (cursor_at order more (count + 1))
 next-entry order e more count h room =
     let all = (e.header ++ e.bytes) ++ more in
@@ -140,7 +140,7 @@ next-entry order e more count h room =
     }
 
 -- the first records are read, and then what follows them
-reading-entries : (limit left : ℕ) (order : Endianness) (entries : List Entry) (rest : List ℕ) (count : ℕ) → AllByRecursion (IsEntry order) entries
+reading-entries : (limit left : ℕ) (order : Endianness) (entries : List RecordEntry) (rest : List ℕ) (count : ℕ) → AllByRecursion (IsEntry order) entries
     → limit ≡ length entries + left → count + length entries ≤ max_records
     → reading limit (cursor_at order (flat_map entry_bytes entries ++ rest) count)
     ≡ records_before (numbered count entries) (reading left (cursor_at order rest (count + length entries)))
@@ -171,10 +171,10 @@ reading-stops (suc left) order rest count (inr h) = absurd (omega arith)
 
 -- The file.
 
-abbrev opened : Cursor → Result Cursor Fault
+abbrev opened : FileCursor → Result FileCursor Fault
 opened c = Ok c
 
-abbrev refused_by : Fault → Result Cursor Fault
+abbrev refused_by : Fault → Result FileCursor Fault
 refused_by f = Err f
 
 pub open_header : (order : Endianness) (header body : List ℕ) → IsHeader order header → opening (header ++ body) ≡ Ok (cursor_at order body 0)
@@ -184,7 +184,7 @@ open_header order header body h =
     let back : drop 24 (header ++ body) ≡ body = ap (λ n. drop n (header ++ body)) (sym size) ∙ drop-append_seam header body in
     opening-header order (header ++ body) (subst (IsHeader order) (sym front) h) ∙ ap (λ (l : List ℕ). opened (cursor_at order l 0)) back
 
-whole_file : (limit left : ℕ) (order : Endianness) (header : List ℕ) (entries : List Entry) (rest file : List ℕ) → IsHeader order header
+whole_file : (limit left : ℕ) (order : Endianness) (header : List ℕ) (entries : List RecordEntry) (rest file : List ℕ) → IsHeader order header
     → AllByRecursion (IsEntry order) entries → file ≡ header ++ (flat_map entry_bytes entries ++ rest) → limit ≡ length entries + left
     → length entries ≤ max_records
     → reading_of limit file ≡ records_before (numbered 0 entries) (reading left (cursor_at order rest (length entries)))
@@ -197,8 +197,8 @@ whole_file limit left order header entries rest file is_header each whole bound 
     ∙ ap (λ n. records_before (numbered 0 entries) (reading left (cursor_at order rest n))) none_before
 
 -- what was read before an end
-reads_just : (r : Reading) (entries : List Entry) (records : List (List ℕ)) (fault : Option Fault)
-    → r ≡ records_before (numbered 0 entries) (record { records = []; fault = fault }) → records ≡ map (λ (e : Entry). e.bytes) entries
+reads_just : (r : Reading) (entries : List RecordEntry) (records : List (List ℕ)) (fault : Option Fault)
+    → r ≡ records_before (numbered 0 entries) (record { records = []; fault = fault }) → records ≡ map (λ (e : RecordEntry). e.bytes) entries
     → (bytes_of r ≡ records) × (r.fault ≡ fault)
 reads_just r entries records fault h bytes_are = (
   ap bytes_of h ∙ ap (map (λ (n : Numbered). n.1)) (append-nil (numbered 0 entries)) ∙ bytes-numbered 0 entries ∙ sym bytes_are,
@@ -219,7 +219,7 @@ reading_of-IsCapture limit file records bound h =
 
 -- the records before a fault are read, and then the fault
 pub reading_of-IsRefused : (limit : ℕ) (file : List ℕ) (records : List (List ℕ)) (fault : Fault) → limit ≤ max_records + 1
-    → IsRefused limit file records fault → (bytes_of (reading_of limit file) ≡ records) × ((reading_of limit file).fault ≡ Some fault)
+    → IsRefusedFile limit file records fault → (bytes_of (reading_of limit file) ≡ records) × ((reading_of limit file).fault ≡ Some fault)
 reading_of-IsRefused limit file records fault bound h =
     let below : length h.entries < limit = h.below in
     let left = limit - length h.entries - 1 in
@@ -228,12 +228,12 @@ reading_of-IsRefused limit file records fault bound h =
     ∙ ap (records_before (numbered 0 h.entries)) (reading-fault left (cursor_at h.order h.rest (length h.entries)) fault h.refused))
     h.bytes_are
 
-file_is : (file : List ℕ) (c : Cursor) (body : List ℕ) → c ≡ at_start c.order file → c.rest ≡ body → file ≡ take 24 file ++ body
+file_is : (file : List ℕ) (c : FileCursor) (body : List ℕ) → c ≡ at_start c.order file → c.rest ≡ body → file ≡ take 24 file ++ body
 file_is file c body start is =
-    let rest : drop 24 file ≡ c.rest = ap (λ (k : Cursor). k.rest) (sym start) in
+    let rest : drop 24 file ≡ c.rest = ap (λ (k : FileCursor). k.rest) (sym start) in
     sym (take-append-drop 24 file) ∙ ap (λ l. take 24 file ++ l) (rest ∙ is)
 
-capture_opened : (limit : ℕ) (file : List ℕ) (c : Cursor) (r : Reading) → opening file ≡ Ok c → IsRead limit c r → r.fault ≡ None
+capture_opened : (limit : ℕ) (file : List ℕ) (c : FileCursor) (r : Reading) → opening file ≡ Ok c → IsRead limit c r → r.fault ≡ None
     → IsCapture limit file (bytes_of r)
 capture_opened limit file c r opens h none =
     let start = opening-is_header file c opens in
@@ -251,12 +251,12 @@ capture_opened limit file c r opens h none =
       stops = elim ends.1 [ inl x ↦ inl x | inr x ↦ inr (count ∙ x) ];
     }
 
-refused_opened : (limit : ℕ) (file : List ℕ) (c : Cursor) (r : Reading) (f : Fault) → opening file ≡ Ok c → IsRead limit c r → r.fault ≡ Some f
-    → IsRefused limit file (bytes_of r) f
+refused_opened : (limit : ℕ) (file : List ℕ) (c : FileCursor) (r : Reading) (f : Fault) → opening file ≡ Ok c → IsRead limit c r → r.fault ≡ Some f
+    → IsRefusedFile limit file (bytes_of r) f
 refused_opened limit file c r f opens h some =
     let start = opening-is_header file c opens in
     let ends : Ending limit c (Some f) (length r.records) h.left = subst (λ (o : Option Fault). Ending limit c o (length r.records) h.left) some h.ends in
-    let none_before : c.count ≡ 0 = ap (λ (k : Cursor). k.count) start.1 in
+    let none_before : c.count ≡ 0 = ap (λ (k : FileCursor). k.count) start.1 in
     let count : c.count + length r.records ≡ length h.cut.entries = let same = h.cut.count_is in omega arith in record {
       order = c.order;
       header = take 24 file;
@@ -271,7 +271,7 @@ refused_opened limit file c r f opens h some =
     }
 
 -- a file that is opened and read without a fault has these records
-by_opening : (limit : ℕ) (file : List ℕ) (o : Result Cursor Fault) → opening file ≡ o → (reading_opened limit o).fault ≡ None
+by_opening : (limit : ℕ) (file : List ℕ) (o : Result FileCursor Fault) → opening file ≡ o → (reading_opened limit o).fault ≡ None
     → IsCapture limit file (bytes_of (reading_opened limit o))
 by_opening limit file (Err f) e h = absurd (cc)
 by_opening limit file (Ok c) e h = capture_opened limit file c (reading limit c) e (read-is limit c) h
@@ -281,27 +281,27 @@ unfolding reading_of
 IsCapture-reading_of limit file h = by_opening limit file (opening file) refl h
 
 -- a fault of a record, in a file that is opened
-refused_by_opening : (limit : ℕ) (file : List ℕ) (f : Fault) (o : Result Cursor Fault) → opening file ≡ o → 0 < f.place
-    → (reading_opened limit o).fault ≡ Some f → IsRefused limit file (bytes_of (reading_opened limit o)) f
+refused_by_opening : (limit : ℕ) (file : List ℕ) (f : Fault) (o : Result FileCursor Fault) → opening file ≡ o → 0 < f.place
+    → (reading_opened limit o).fault ≡ Some f → IsRefusedFile limit file (bytes_of (reading_opened limit o)) f
 refused_by_opening limit file f (Err g) e place h =
     let same : g ≡ f = cc in
     let at : f.place ≡ 0 = ap (λ (x : Fault). x.place) (sym same ∙ opening-fault_place file g e) in absurd (omega arith)
 refused_by_opening limit file f (Ok c) e place h = refused_opened limit file c (reading limit c) f e (read-is limit c) h
 
 pub IsRefused-reading_of : (limit : ℕ) (file : List ℕ) (f : Fault) → (reading_of limit file).fault ≡ Some f → 0 < f.place
-    → IsRefused limit file (bytes_of (reading_of limit file)) f
+    → IsRefusedFile limit file (bytes_of (reading_of limit file)) f
 unfolding reading_of
 IsRefused-reading_of limit file f h place = refused_by_opening limit file f (opening file) refl place h
 
 -- the place of a refusal is the number of the first record that is not there
-pub IsRefused-place : (limit : ℕ) (file : List ℕ) (records : List (List ℕ)) (f : Fault) → IsRefused limit file records f
+pub IsRefused-place : (limit : ℕ) (file : List ℕ) (records : List (List ℕ)) (f : Fault) → IsRefusedFile limit file records f
     → f ≡ fault_at f.number (length records + 1)
 IsRefused-place limit file records f h =
-    let count : length h.entries ≡ length records = sym (length-map h.entries (λ (e : Entry). e.bytes)) ∙ ap length (sym h.bytes_are) in
+    let count : length h.entries ≡ length records = sym (length-map h.entries (λ (e : RecordEntry). e.bytes)) ∙ ap length (sym h.bytes_are) in
     next-fault_place (cursor_at h.order h.rest (length h.entries)) f h.refused ∙ ap (λ n. fault_at f.number (n + 1)) count
 
 -- the records before a fault are those of the file up to there
-pub IsCapture-IsRefused : (limit : ℕ) (file : List ℕ) (records : List (List ℕ)) (f : Fault) → IsRefused limit file records f
+pub IsCapture-IsRefused : (limit : ℕ) (file : List ℕ) (records : List (List ℕ)) (f : Fault) → IsRefusedFile limit file records f
     → IsCapture (f.place - 1) file records
 IsCapture-IsRefused limit file records f h =
     let place : f.place ≡ length h.entries + 1 = ap (λ (x : Fault). x.place) (next-fault_place (cursor_at h.order h.rest (length h.entries)) f h.refused) in record {
@@ -318,7 +318,7 @@ IsCapture-IsRefused limit file records f h =
     }
 
 -- a fault at no record is the header's
-header_fault : (limit : ℕ) (file : List ℕ) (f : Fault) (o : Result Cursor Fault) → opening file ≡ o → (reading_opened limit o).fault ≡ Some f
+header_fault : (limit : ℕ) (file : List ℕ) (f : Fault) (o : Result FileCursor Fault) → opening file ≡ o → (reading_opened limit o).fault ≡ Some f
     → f.place ≡ 0 → o ≡ Err f
 header_fault limit file f (Err g) e h place = let same : g ≡ f = cc in ap (λ (x : Fault). refused_by x) same
 header_fault limit file f (Ok c) e h place =
@@ -334,11 +334,11 @@ pub reading_of-header_fault : (limit : ℕ) (file : List ℕ) (f : Fault) → op
 reading_of-header_fault limit file f h =
     (ap (λ (r : Reading). r.fault) (reading_of-refused limit file f h), ap (λ (x : Fault). x.place) (opening-fault_place file f h))
 
-numbers_by_opening : (limit : ℕ) (file : List ℕ) (o : Result Cursor Fault) → opening file ≡ o
+numbers_by_opening : (limit : ℕ) (file : List ℕ) (o : Result FileCursor Fault) → opening file ≡ o
     → map (λ (n : Numbered). n.0) (reading_opened limit o).records ≡ range_with_len 1 (length (reading_opened limit o).records)
 numbers_by_opening limit file (Err f) e = refl
 numbers_by_opening limit file (Ok c) e =
-    let none_before : c.count ≡ 0 = ap (λ (k : Cursor). k.count) (opening-is_header file c e).1 in
+    let none_before : c.count ≡ 0 = ap (λ (k : FileCursor). k.count) (opening-is_header file c e).1 in
     let first : c.count + 1 ≡ 1 = omega arith in
     (read-is limit c).numbers ∙ ap (λ n. range_with_len n (length (reading limit c).records)) first
 
@@ -353,7 +353,7 @@ pub IsCapture-append : (limit : ℕ) (file more : List ℕ) (records : List (Lis
     → IsCapture limit (file ++ more) records
 IsCapture-append limit file more records h full =
     let body = flat_map entry_bytes h.entries in
-    let count : length h.entries ≡ length records = sym (length-map h.entries (λ (e : Entry). e.bytes)) ∙ ap length (sym h.bytes_are) in record {
+    let count : length h.entries ≡ length records = sym (length-map h.entries (λ (e : RecordEntry). e.bytes)) ∙ ap length (sym h.bytes_are) in record {
       order = h.order;
       header = h.header;
       entries = h.entries;

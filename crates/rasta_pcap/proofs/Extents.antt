@@ -4,7 +4,7 @@ use Rattle.std.proofs.lemmas.List.{take-append-drop, flat_map_more}
 use Rattle.std.specs.List.{flat_map, AllByRecursion}
 use Rattle.std.proofs.KnownBytes.{Consumes-trans}
 use Rattle.rasta_pcap.specs.declared.pcap.Endianness.{Endianness}
-use Rattle.rasta_pcap.specs.Capture.{Cursor, Entry, IsEntry, Numbered, cursor_after, captured_length, cursor_at, entry_bytes}
+use Rattle.rasta_pcap.specs.Capture.{FileCursor, RecordEntry, IsEntry, Numbered, cursor_after, captured_length, cursor_at, entry_bytes}
 use Rattle.rasta_pcap.specs.Extent.{HasRead, in_header, in_records, ReadsUpToRecord, ReadsWithinRecord}
 use Rattle.rasta_pcap.specs.Filling.{IsFilled, ReadsUpTo}
 use Rattle.rasta_pcap.specs.Fronts.{front_of}
@@ -41,7 +41,7 @@ pub HasRead-opened : (order : Endianness) (old new : Option (List ℕ)) → Open
 HasRead-opened order old new h =
     let file = h.bytes ++ [] in
     let opened = opening-is_header file (cursor_at order [] 0) (h.each []) in
-    let nothing : [] ≡ drop 24 file = ap (λ (c : Cursor). c.rest) opened.1 in record {
+    let nothing : [] ≡ drop 24 file = ap (λ (c : FileCursor). c.rest) opened.1 in record {
       bytes = h.bytes;
       header = take 24 file;
       entries = [];
@@ -52,7 +52,7 @@ HasRead-opened order old new h =
       counted = refl;
     }
 
-each-more : (order : Endianness) (entries : List Entry) (e : Entry) → AllByRecursion (IsEntry order) entries → IsEntry order e
+each-more : (order : Endianness) (entries : List RecordEntry) (e : RecordEntry) → AllByRecursion (IsEntry order) entries → IsEntry order e
     → AllByRecursion (IsEntry order) (entries ++ e ∷ [])
 each-more order [] e each h = (h, tt)
 each-more order (x ∷ xs) e each h = (each.0, each-more order xs e each.1 h)
@@ -63,7 +63,7 @@ pub HasRead-more : (order : Endianness) (read count : ℕ) (r : Numbered) (old m
 HasRead-more order read count r old mid new h found =
     let c = cursor_at order (found.bytes ++ []) count in
     let f = next_entry c r (next-is_next_entry c r (found.each []).0) in
-    let nothing : (cursor_after c).rest ≡ [] = ap (λ (c : Cursor). c.rest) (found.each []).1 in
+    let nothing : (cursor_after c).rest ≡ [] = ap (λ (c : FileCursor). c.rest) (found.each []).1 in
     let bytes : found.bytes ≡ entry_bytes f.entry =
     sym (append-nil found.bytes) ∙ f.front ∙ ap (λ l. entry_bytes f.entry ++ l) nothing ∙ append-nil (entry_bytes f.entry) in record {
       bytes = h.bytes ++ found.bytes;

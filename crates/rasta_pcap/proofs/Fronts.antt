@@ -9,7 +9,7 @@ use Rattle.std.proofs.lemmas.Bool.Decides.{nat_tests}
 use Rattle.rasta_pcap.specs.declared.fault.Fault.{Fault}
 use Rattle.rasta_pcap.specs.declared.pcap.Endianness.{Endianness}
 use Rattle.rasta_pcap.specs.Fault.{fault_at, cut_record, too_many, record_too_long}
-use Rattle.rasta_pcap.specs.Capture.{Cursor, Entry, IsEntry, IsHeader, Numbered, cursor_at, captured_length, next_length, next_bytes, max_records, max_captured, opening, next}
+use Rattle.rasta_pcap.specs.Capture.{FileCursor, RecordEntry, IsEntry, IsHeader, Numbered, cursor_at, captured_length, next_length, next_bytes, max_records, max_captured, opening, next}
 use Rattle.rasta_pcap.specs.Filling.{IsFilled, ReadsUpTo}
 use Rattle.rasta_pcap.specs.Fronts.{front_of}
 use Rattle.rasta_pcap.specs.Stream.{ReadsJust, Opens, RefusesHeader, ReadsRecord, MeetsEnd, RefusesRecord}
@@ -33,7 +33,7 @@ nothing_more bytes more h = ap (λ l. bytes ++ l) h ∙ append-nil bytes
 
 -- The header of a file.
 
-pub opens : (bytes : List ℕ) (c : Cursor) (old new : Option (List ℕ)) → IsFilled 24 old new bytes → opening bytes ≡ Ok c → Opens c.order old new
+pub opens : (bytes : List ℕ) (c : FileCursor) (old new : Option (List ℕ)) → IsFilled 24 old new bytes → opening bytes ≡ Ok c → Opens c.order old new
 opens bytes c old new filled h =
     let is_header = (opening-is_header bytes c h).0 in
     let whole : take 24 bytes ≡ bytes = take_all 24 bytes filled.within in record {
@@ -229,7 +229,7 @@ reads_record order count captured front body old mid new filled h bytes whole =
     let within : length body ≤ captured = bytes.within in
     let said : captured ≡ captured_length order front = is_front.captured_is in
     let bounded : captured ≤ max_captured = is_front.bounded in
-    let e : Entry = record { header = front; bytes = body } in
+    let e : RecordEntry = record { header = front; bytes = body } in
     let is_entry : IsEntry order e = record { size = is_front.size; captured = omega arith; bounded = omega arith } in record {
       bytes = front ++ body;
       consumed = Consumes-trans old mid new front body filled.consumed bytes.consumed;

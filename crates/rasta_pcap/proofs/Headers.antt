@@ -10,7 +10,7 @@ use Rattle.rasta_pcap.specs.declared.fault.Fault.{Fault}
 use Rattle.rasta_pcap.specs.declared.pcap.Endianness.{Endianness}
 use Rattle.rasta_pcap.specs.declared.pcap.Endianness.TheVariants.{Little, Big}
 use Rattle.rasta_pcap.specs.Fault.{fault_at, not_pcap, wrong_version, wrong_link_type, cut_header}
-use Rattle.rasta_pcap.specs.Capture.{Cursor, IsHeader, number_in, microseconds, nanoseconds, is_magic, order_of, opening, opening_in}
+use Rattle.rasta_pcap.specs.Capture.{FileCursor, IsHeader, number_in, microseconds, nanoseconds, is_magic, order_of, opening, opening_in}
 
 -- a number does not depend on what follows its bytes
 pub number_in-append : (order : Endianness) (n : ℕ) (xs ys : List ℕ) → n ≤ length xs → number_in order n (xs ++ ys) ≡ number_in order n xs
@@ -75,26 +75,26 @@ order_of-magic file Big h =
     ∙ ap (order_by false) (is_magic-from (big_number 4 file) h)
 
 -- the cursor after the header of a file
-abbrev pub at_start : Endianness → List ℕ → Cursor
+abbrev pub at_start : Endianness → List ℕ → FileCursor
 at_start order file = record { order = order; rest = drop 24 file; count = 0 }
 
 -- the header of a file by its tests
-abbrev judged : Bool → Bool → Bool → Cursor → Result Cursor Fault
+abbrev judged : Bool → Bool → Bool → FileCursor → Result FileCursor Fault
 judged major minor link_type c = cond (major && minor) (cond link_type (Ok c) (Err (fault_at wrong_link_type 0))) (Err (fault_at wrong_version 0))
 
-abbrev of_fault : Fault → Result Cursor Fault
+abbrev of_fault : Fault → Result FileCursor Fault
 of_fault f = Err f
 
 at_place_0 : (f : Fault) (number : ℕ) → of_fault (fault_at number 0) ≡ of_fault f → f ≡ fault_at f.number 0
 at_place_0 f number h = let e : fault_at number 0 ≡ f = cc in rw (← e) refl
 
-record IsJudged (major minor link_type : Bool) (c d : Cursor) : Type 0 where
+record IsJudged (major minor link_type : Bool) (c d : FileCursor) : Type 0 where
   is : d ≡ c
   major_is : major ≡ true
   minor_is : minor ≡ true
   link_is : link_type ≡ true
 
-judged-ok : (major minor link_type : Bool) (c d : Cursor) → judged major minor link_type c ≡ Ok d → IsJudged major minor link_type c d
+judged-ok : (major minor link_type : Bool) (c d : FileCursor) → judged major minor link_type c ≡ Ok d → IsJudged major minor link_type c d
 judged-ok false minor link_type c d h = absurd (cc)
 judged-ok true false link_type c d h = absurd (cc)
 judged-ok true true false c d h = absurd (cc)
@@ -131,7 +131,7 @@ opening-header order file h =
     ∙ ap (λ b. judged true b link_of c) minor
     ∙ ap (λ b. judged true true b c) link
 
-opened : (short : Bool) (o : Option Endianness) (file : List ℕ) (c : Cursor) → cond short (Err (fault_at cut_header 0)) (opening_in o file) ≡ Ok c
+opened : (short : Bool) (o : Option Endianness) (file : List ℕ) (c : FileCursor) → cond short (Err (fault_at cut_header 0)) (opening_in o file) ≡ Ok c
     → (short ≡ false) × (o ≡ Some c.order) × IsJudged (nat_eq (number_in c.order 2 (drop 4 file)) 2) (nat_eq (number_in c.order 2 (drop 6 file)) 4)
     (nat_eq (number_in c.order 4 (drop 20 file)) 1) (at_start c.order file) c
 opened true o file c h = absurd (cc)
@@ -139,7 +139,7 @@ opened false None file c h = absurd (cc)
 opened false (Some order) file c h =
     let j = judged-ok (nat_eq (number_in order 2 (drop 4 file)) 2) (nat_eq (number_in order 2 (drop 6 file)) 4)
     (nat_eq (number_in order 4 (drop 20 file)) 1) (at_start order file) c h in
-    let e : c.order ≡ order = ap (λ (k : Cursor). k.order) j.is in (
+    let e : c.order ≡ order = ap (λ (k : FileCursor). k.order) j.is in (
       refl,
       ap Some (sym e),
       subst (λ (x : Endianness). IsJudged (nat_eq (number_in x 2 (drop 4 file)) 2) (nat_eq (number_in x 2 (drop 6 file)) 4)
@@ -147,7 +147,7 @@ opened false (Some order) file c h =
     )
 
 -- a file that is opened has such a header, and the cursor stands after it
-pub opening-is_header : (file : List ℕ) (c : Cursor) → opening file ≡ Ok c → IsHeader c.order (take 24 file) × (c ≡ at_start c.order file)
+pub opening-is_header : (file : List ℕ) (c : FileCursor) → opening file ≡ Ok c → IsHeader c.order (take 24 file) × (c ≡ at_start c.order file)
 opening-is_header file c h =
     let o = opened (nat_lt (length file) 24) (order_of file) file c h in
     let long = ltb-false (length file) 24 o.0 in (
@@ -168,7 +168,7 @@ IsHeader-one_order Little Big header x y = absurd (magic-one_order header x.magi
 IsHeader-one_order Big Little header x y = absurd (magic-one_order header y.magic x.magic)
 IsHeader-one_order Big Big header x y = refl
 
-judged-fault : (major minor link_type : Bool) (c : Cursor) (f : Fault) → judged major minor link_type c ≡ Err f → f ≡ fault_at f.number 0
+judged-fault : (major minor link_type : Bool) (c : FileCursor) (f : Fault) → judged major minor link_type c ≡ Err f → f ≡ fault_at f.number 0
 judged-fault false minor link_type c f h = at_place_0 f wrong_version h
 judged-fault true false link_type c f h = at_place_0 f wrong_version h
 judged-fault true true false c f h = at_place_0 f wrong_link_type h
@@ -189,11 +189,11 @@ opening-fault_place file f h = refused (nat_lt (length file) 24) (order_of file)
 -- The header of a file that goes on.
 
 -- the cursor of a file that goes on
-abbrev pub with_more : List ℕ → Result Cursor Fault → Result Cursor Fault
+abbrev pub with_more : List ℕ → Result FileCursor Fault → Result FileCursor Fault
 with_more more (Ok c) = Ok (record { order = c.order; rest = c.rest ++ more; count = c.count })
 with_more more (Err f) = Err f
 
-judged-with_more : (major minor link_type : Bool) (c : Cursor) (more : List ℕ)
+judged-with_more : (major minor link_type : Bool) (c : FileCursor) (more : List ℕ)
     → judged major minor link_type (record { order = c.order; rest = c.rest ++ more; count = c.count })
     ≡ with_more more (judged major minor link_type c)
 judged-with_more false minor link_type c more = refl

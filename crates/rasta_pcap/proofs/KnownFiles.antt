@@ -6,7 +6,7 @@ use Rattle.rasta_pcap.specs.declared.fault.Fault.{Fault}
 use Rattle.rasta_pcap.specs.declared.pcap.Endianness.{Endianness}
 use Rattle.rasta_pcap.specs.declared.time.CaptureTime.{CaptureTime}
 use Rattle.rasta_pcap.specs.declared.time.FractionUnit.{FractionUnit}
-use Rattle.rasta_pcap.specs.Capture.{Cursor, Numbered, cursor_after, cursor_at, max_records, next, next_length, opening}
+use Rattle.rasta_pcap.specs.Capture.{FileCursor, Numbered, cursor_after, cursor_at, max_records, next, next_length, opening}
 use Rattle.rasta_pcap.specs.Captured.{captured_at, captured_from, captured_in, captured_opened, captured_step}
 use Rattle.rasta_pcap.specs.Stream.{MeetsEnd, Opens, ReadsRecord, RefusesHeader, RefusesRecord}
 use Rattle.rasta_pcap.specs.Times.{TellsTime, TellsUnit, time_of, unit_of}
@@ -41,7 +41,7 @@ pub record OpensTo (order : Endianness) (unit : FractionUnit) (file : List ℕ) 
   pub is : opening file ≡ Ok (cursor_at order rest 0)
   pub told : unit ≡ unit_of order (take 24 file)
 
-abbrev rest_of : Cursor → List ℕ
+abbrev rest_of : FileCursor → List ℕ
 rest_of c = c.rest
 
 -- the bytes that were read are those of the header
@@ -83,7 +83,7 @@ pub record NextOf (order : Endianness) (unit : FractionUnit) (count : ℕ) (r : 
   pub after : cursor_after (cursor_at order file count) ≡ cursor_at order rest r.0
   pub timed : time ≡ Some (time_of order unit (take 16 file))
 
-abbrev rest_size : Cursor → ℕ
+abbrev rest_size : FileCursor → ℕ
 rest_size c = length c.rest
 
 -- the header of a record stands in the bytes that were read
@@ -127,26 +127,26 @@ known_refusal order count f file new h =
 
 -- ---- what was captured
 
-pub captured_from-record : (left : ℕ) (unit : FractionUnit) (c : Cursor) (r : Numbered) → next c ≡ Ok (Some r)
+pub captured_from-record : (left : ℕ) (unit : FractionUnit) (c : FileCursor) (r : Numbered) → next c ≡ Ok (Some r)
     → captured_from (suc left) unit c ≡ captured_at unit c r ∷ captured_from left unit (cursor_after c)
 unfolding captured_from
 captured_from-record left unit c r h = ap (λ o. captured_step unit c o (captured_from left unit (cursor_after c))) h
 
-pub captured_from-end : (left : ℕ) (unit : FractionUnit) (c : Cursor) → next c ≡ Ok None → captured_from left unit c ≡ []
+pub captured_from-end : (left : ℕ) (unit : FractionUnit) (c : FileCursor) → next c ≡ Ok None → captured_from left unit c ≡ []
 unfolding captured_from
 captured_from-end zero unit c h = refl
 captured_from-end (suc left) unit c h = ap (λ o. captured_step unit c o (captured_from left unit (cursor_after c))) h
 
-pub captured_from-fault : (left : ℕ) (unit : FractionUnit) (c : Cursor) (f : Fault) → next c ≡ Err f → captured_from left unit c ≡ []
+pub captured_from-fault : (left : ℕ) (unit : FractionUnit) (c : FileCursor) (f : Fault) → next c ≡ Err f → captured_from left unit c ≡ []
 unfolding captured_from
 captured_from-fault zero unit c f h = refl
 captured_from-fault (suc left) unit c f h = ap (λ o. captured_step unit c o (captured_from left unit (cursor_after c))) h
 
-pub captured_from-none_left : (unit : FractionUnit) (c : Cursor) → captured_from zero unit c ≡ []
+pub captured_from-none_left : (unit : FractionUnit) (c : FileCursor) → captured_from zero unit c ≡ []
 unfolding captured_from
 captured_from-none_left unit c = refl
 
-pub captured_in-opened : (file : List ℕ) (c : Cursor) → opening file ≡ Ok c → captured_in file ≡ captured_from max_records (unit_of c.order (take 24 file)) c
+pub captured_in-opened : (file : List ℕ) (c : FileCursor) → opening file ≡ Ok c → captured_in file ≡ captured_from max_records (unit_of c.order (take 24 file)) c
 unfolding captured_in
 captured_in-opened file c h = ap (captured_opened file) h
 

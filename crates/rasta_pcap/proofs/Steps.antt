@@ -5,32 +5,32 @@ use Rattle.std.proofs.lemmas.Bool.{ltb-false, leb-false, eqb-true}
 use Rattle.std.proofs.lemmas.Bool.Decides.{nat_tests}
 use Rattle.rasta_pcap.specs.declared.fault.Fault.{Fault}
 use Rattle.rasta_pcap.specs.Fault.{fault_at, cut_record, too_many, record_too_long}
-use Rattle.rasta_pcap.specs.Capture.{Cursor, Numbered, opening, next, cursor_after, next_bytes, next_length, max_records, max_captured, read_step, reading, reading_opened, reading_of, with_record}
+use Rattle.rasta_pcap.specs.Capture.{FileCursor, Numbered, opening, next, cursor_after, next_bytes, next_length, max_records, max_captured, read_step, reading, reading_opened, reading_of, with_record}
 
 -- a first record, and then the reading after it
-pub reading-record : (left : ℕ) (c : Cursor) (r : Numbered) → next c ≡ Ok (Some r)
+pub reading-record : (left : ℕ) (c : FileCursor) (r : Numbered) → next c ≡ Ok (Some r)
     → reading (suc left) c ≡ with_record r (reading left (cursor_after c))
 unfolding reading
 reading-record left c r h = ap (λ o. read_step o (reading left (cursor_after c))) h
 
 -- nothing at the exact end
-pub reading-end : (left : ℕ) (c : Cursor) → next c ≡ Ok None → reading (suc left) c ≡ record { records = []; fault = None }
+pub reading-end : (left : ℕ) (c : FileCursor) → next c ≡ Ok None → reading (suc left) c ≡ record { records = []; fault = None }
 unfolding reading
 reading-end left c h = ap (λ o. read_step o (reading left (cursor_after c))) h
 
 -- the first fault ends it
-pub reading-fault : (left : ℕ) (c : Cursor) (f : Fault) → next c ≡ Err f
+pub reading-fault : (left : ℕ) (c : FileCursor) (f : Fault) → next c ≡ Err f
     → reading (suc left) c ≡ record { records = []; fault = Some f }
 unfolding reading
 reading-fault left c f h = ap (λ o. read_step o (reading left (cursor_after c))) h
 
 -- nothing more where no record may be read
-pub reading-none_left : (c : Cursor) → reading zero c ≡ record { records = []; fault = None }
+pub reading-none_left : (c : FileCursor) → reading zero c ≡ record { records = []; fault = None }
 unfolding reading
 reading-none_left c = refl
 
 -- the reading of a file that was opened goes on from its cursor
-pub reading_of-opened : (limit : ℕ) (file : List ℕ) (c : Cursor) → opening file ≡ Ok c → reading_of limit file ≡ reading limit c
+pub reading_of-opened : (limit : ℕ) (file : List ℕ) (c : FileCursor) → opening file ≡ Ok c → reading_of limit file ≡ reading limit c
 unfolding reading_of
 reading_of-opened limit file c h = ap (reading_opened limit) h
 
@@ -96,14 +96,14 @@ tested-fault false false false false true place r f h = same_fault f (fault_at c
 tested-fault false false false false false place r f h = absurd (cc)
 
 -- what a next record says of the cursor
-pub record IsNextEntry (c : Cursor) (r : Numbered) : Type 0 where
+pub record IsNextEntry (c : FileCursor) (r : Numbered) : Type 0 where
   pub is : r ≡ (c.count + 1, next_bytes c)
   pub room : c.count < max_records
   pub header : 16 ≤ length c.rest
   pub bounded : next_length c ≤ max_captured
   pub whole : 16 + next_length c ≤ length c.rest
 
-pub next-is_next_entry : (c : Cursor) (r : Numbered) → next c ≡ Ok (Some r) → IsNextEntry c r
+pub next-is_next_entry : (c : FileCursor) (r : Numbered) → next c ≡ Ok (Some r) → IsNextEntry c r
 next-is_next_entry c r h =
     let size = length c.rest in
     let captured = next_length c in
@@ -122,13 +122,13 @@ tested-found : (size count captured place : ℕ) (r : Numbered) → count < max_
 tested-found size count captured place r room bounded whole = grind (arith, nat_tests)
 
 -- a whole record that comes first is the next
-pub next-found : (c : Cursor) → c.count < max_records → next_length c ≤ max_captured → 16 + next_length c ≤ length c.rest
+pub next-found : (c : FileCursor) → c.count < max_records → next_length c ≤ max_captured → 16 + next_length c ≤ length c.rest
     → next c ≡ Ok (Some (c.count + 1, next_bytes c))
 next-found c room bounded whole =
     tested-found (length c.rest) c.count (next_length c) (c.count + 1) (c.count + 1, next_bytes c) room bounded whole
 
 -- the end is there where no byte is left
-pub next-end : (c : Cursor) → next c ≡ Ok None → c.rest ≡ []
+pub next-end : (c : FileCursor) → next c ≡ Ok None → c.rest ≡ []
 next-end c h =
     let size = length c.rest in
     let captured = next_length c in
@@ -137,12 +137,12 @@ next-end c h =
     (tested-end (nat_eq size 0) (nat_le max_records c.count) (nat_lt size 16) (nat_lt max_captured captured)
     (nat_lt size (16 + captured)) (c.count + 1) (c.count + 1, next_bytes c) h))
 
-pub next-nil : (c : Cursor) → c.rest ≡ [] → next c ≡ Ok None
+pub next-nil : (c : FileCursor) → c.rest ≡ [] → next c ≡ Ok None
 next-nil c h =
     ap (λ (rest : List ℕ). next (record { order = c.order; rest = rest; count = c.count })) h
 
 -- a record's fault names its number, and no end
-pub next-fault_place : (c : Cursor) (f : Fault) → next c ≡ Err f → f ≡ fault_at f.number (c.count + 1)
+pub next-fault_place : (c : FileCursor) (f : Fault) → next c ≡ Err f → f ≡ fault_at f.number (c.count + 1)
 next-fault_place c f h =
     let size = length c.rest in
     let captured = next_length c in

@@ -1,11 +1,13 @@
 -- A capture file in the classic libpcap format, its records, and the cursor that goes over them.
-use Rattle.std.specs.Prelude.{◌≡◌, ℕ, zero, suc, ◌+◌, ◌<◌, ◌≤◌, List, [], ◌∷◌, ◌++◌, length, take, drop, map, Option, Some, None, Result, Ok, Err, Bool, ◌||◌, ◌&&◌, nat_lt, nat_le, ◌⊎◌, ◌==◌, if◌then◌else◌}
+use Rattle.std.specs.Prelude.{◌≡◌, ℕ, zero, suc, ◌+◌, ◌<◌, ◌≤◌, List, [], ◌∷◌, ◌++◌, length, take, drop, map, Option}
+use Rattle.std.specs.Prelude.{Some, None, Result, Ok, Err, Bool, ◌||◌, ◌&&◌, nat_lt, nat_le, ◌⊎◌, ◌==◌, if◌then◌else◌}
 use Rattle.std.specs.List.{flat_map, AllByRecursion}
 use Rattle.byteorder.specs.Endian.{little_number, big_number}
 use Rattle.rasta_pcap.specs.declared.fault.Fault.{Fault}
 use Rattle.rasta_pcap.specs.declared.pcap.Endianness.{Endianness}
 use Rattle.rasta_pcap.specs.declared.pcap.Endianness.TheVariants.{Little, Big}
-use Rattle.rasta_pcap.specs.Fault.{fault_at, not_pcap, wrong_version, wrong_link_type, cut_header, cut_record, too_many, record_too_long}
+use Rattle.rasta_pcap.specs.Fault.{fault_at, not_pcap, wrong_version, wrong_link_type, cut_header, cut_record, too_many}
+use Rattle.rasta_pcap.specs.Fault.{record_too_long}
 
 -- how many records a file can hold
 abbrev pub max_records : ℕ
@@ -40,17 +42,17 @@ abbrev pub captured_length : Endianness → List ℕ → ℕ
 captured_length order header = number_in order 4 (drop 8 header)
 
 -- a record as it stands in the file: its header, and the captured bytes
-pub record Entry : Type 0 where
+pub record RecordEntry : Type 0 where
   pub header : List ℕ
   pub bytes : List ℕ
 
 -- the header has 16 bytes and says how many bytes were captured, which are not too many
-pub record IsEntry (order : Endianness) (e : Entry) : Type 0 where
+pub record IsEntry (order : Endianness) (e : RecordEntry) : Type 0 where
   pub size : length e.header ≡ 16
   pub captured : captured_length order e.header ≡ length e.bytes
   pub bounded : length e.bytes ≤ max_captured
 
-abbrev pub entry_bytes : Entry → List ℕ
+abbrev pub entry_bytes : RecordEntry → List ℕ
 entry_bytes e = e.header ++ e.bytes
 
 -- the records of a capture file, at most so many: the file is its header, these records, and then
@@ -58,22 +60,22 @@ entry_bytes e = e.header ++ e.bytes
 pub record IsCapture (limit : ℕ) (file : List ℕ) (records : List (List ℕ)) : Type 0 where
   pub order : Endianness
   pub header : List ℕ
-  pub entries : List Entry
+  pub entries : List RecordEntry
   pub rest : List ℕ
   pub is_header : IsHeader order header
   pub each : AllByRecursion (IsEntry order) entries
   pub whole : file ≡ header ++ (flat_map entry_bytes entries ++ rest)
-  pub bytes_are : records ≡ map (λ (e : Entry). e.bytes) entries
+  pub bytes_are : records ≡ map (λ (e : RecordEntry). e.bytes) entries
   pub within : length entries ≤ limit
   pub stops : (rest ≡ []) ⊎ (length entries ≡ limit)
 
 -- where a reader stands: the byte order, the bytes that are left, and how many records came before
-pub record Cursor : Type 0 where
+pub record FileCursor : Type 0 where
   pub order : Endianness
   pub rest : List ℕ
   pub count : ℕ
 
-abbrev pub cursor_at : Endianness → List ℕ → ℕ → Cursor
+abbrev pub cursor_at : Endianness → List ℕ → ℕ → FileCursor
 cursor_at order rest count = record { order = order; rest = rest; count = count }
 
 abbrev pub is_magic : ℕ → Bool
@@ -86,7 +88,7 @@ order_of file =
     else if is_magic (big_number 4 file) then Some Big
     else None
 
-abbrev pub opening_in : Option Endianness → List ℕ → Result Cursor Fault
+abbrev pub opening_in : Option Endianness → List ℕ → Result FileCursor Fault
 opening_in None file = Err (fault_at not_pcap 0)
 opening_in (Some order) file =
     if number_in order 2 (drop 4 file) == 2 && number_in order 2 (drop 6 file) == 4 then
@@ -95,19 +97,19 @@ opening_in (Some order) file =
     else Err (fault_at wrong_version 0)
 
 -- the cursor after the header of a file, or the header's first fault
-abbrev pub opening : List ℕ → Result Cursor Fault
+abbrev pub opening : List ℕ → Result FileCursor Fault
 opening file = if nat_lt (length file) 24 then Err (fault_at cut_header 0) else opening_in (order_of file) file
 
 -- the captured length in the next header
-abbrev pub next_length : Cursor → ℕ
+abbrev pub next_length : FileCursor → ℕ
 next_length c = captured_length c.order (take 16 c.rest)
 
 -- the captured bytes of the next record
-abbrev pub next_bytes : Cursor → List ℕ
+abbrev pub next_bytes : FileCursor → List ℕ
 next_bytes c = take (next_length c) (drop 16 c.rest)
 
 -- the cursor after the next record
-abbrev pub cursor_after : Cursor → Cursor
+abbrev pub cursor_after : FileCursor → FileCursor
 cursor_after c = record { order = c.order; rest = drop (next_length c) (drop 16 c.rest); count = c.count + 1 }
 
 -- a record's number, from 1, and its captured bytes
@@ -115,7 +117,7 @@ abbrev pub Numbered : Type 0
 Numbered = ℕ × List ℕ
 
 -- the next record, none at the exact end, or the first fault
-abbrev pub next : Cursor → Result (Option Numbered) Fault
+abbrev pub next : FileCursor → Result (Option Numbered) Fault
 next c =
     if length c.rest == 0 then Ok None
     else if nat_le max_records c.count then Err (fault_at too_many (c.count + 1))
@@ -125,7 +127,7 @@ next c =
     else Ok (Some (c.count + 1, next_bytes c))
 
 -- where the cursor stands then: after a record that was there, else where it stood
-abbrev pub moved : Result (Option Numbered) Fault → Cursor → Cursor
+abbrev pub moved : Result (Option Numbered) Fault → FileCursor → FileCursor
 moved (Ok (Some r)) c = cursor_after c
 moved (Ok None) c = c
 moved (Err f) c = c
@@ -144,11 +146,11 @@ read_step (Ok None) more = record { records = []; fault = None }
 read_step (Ok (Some r)) more = with_record r more
 
 -- at most so many records from the cursor on; bytes after them are not looked at
-unfoldable pub reading : ℕ → Cursor → Reading
+unfoldable pub reading : ℕ → FileCursor → Reading
 reading zero c = record { records = []; fault = None }
 reading (suc left) c = read_step (next c) (reading left (cursor_after c))
 
-abbrev pub reading_opened : ℕ → Result Cursor Fault → Reading
+abbrev pub reading_opened : ℕ → Result FileCursor Fault → Reading
 reading_opened limit (Err f) = record { records = []; fault = Some f }
 reading_opened limit (Ok c) = reading limit c
 
@@ -161,14 +163,14 @@ bytes_of r = map (λ (n : Numbered). n.1) r.records
 
 -- a file that is refused after these records, fewer than the bound: the file is its header, these
 -- records, and then bytes that begin with no record, for this fault
-pub record IsRefused (limit : ℕ) (file : List ℕ) (records : List (List ℕ)) (fault : Fault) : Type 0 where
+pub record IsRefusedFile (limit : ℕ) (file : List ℕ) (records : List (List ℕ)) (fault : Fault) : Type 0 where
   pub order : Endianness
   pub header : List ℕ
-  pub entries : List Entry
+  pub entries : List RecordEntry
   pub rest : List ℕ
   pub is_header : IsHeader order header
   pub each : AllByRecursion (IsEntry order) entries
   pub whole : file ≡ header ++ (flat_map entry_bytes entries ++ rest)
-  pub bytes_are : records ≡ map (λ (e : Entry). e.bytes) entries
+  pub bytes_are : records ≡ map (λ (e : RecordEntry). e.bytes) entries
   pub below : length entries < limit
   pub refused : next (record { order = order; rest = rest; count = length entries }) ≡ Err fault

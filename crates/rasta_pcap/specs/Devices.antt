@@ -1,5 +1,6 @@
 -- What a device answered, its count of failures, and what went in and out.
-use Rattle.std.specs.Prelude.{◌≡◌, ℕ, ◌+◌, ◌-◌, ◌^◌, ◌<◌, ◌++◌, min, List, Option, Result, Ok, Err, MatchResult, zero, suc, ◌⊎◌}
+use Rattle.std.specs.Prelude.{◌≡◌, ℕ, ◌+◌, ◌-◌, ◌^◌, ◌<◌, ◌++◌, min, List, Option, Result, Ok, Err, MatchResult, zero}
+use Rattle.std.specs.Prelude.{suc, ◌⊎◌}
 use Rattle.std.specs.Io.KnownBytes.{Appends}
 use Rattle.rasta_pcap.specs.declared.counted.Counted.{Counted}
 use Rattle.rasta_pcap.specs.declared.fault.Fault.{Fault}

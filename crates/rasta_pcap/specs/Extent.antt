@@ -3,7 +3,7 @@ use Rattle.std.specs.Prelude.{◌≡◌, ℕ, ◌+◌, ◌<◌, ◌≤◌, ◌�
 use Rattle.std.specs.List.{flat_map, AllByRecursion}
 use Rattle.std.specs.Io.KnownBytes.{Consumes}
 use Rattle.rasta_pcap.specs.declared.pcap.Endianness.{Endianness}
-use Rattle.rasta_pcap.specs.Capture.{Entry, IsEntry, IsHeader, captured_length, entry_bytes}
+use Rattle.rasta_pcap.specs.Capture.{RecordEntry, IsEntry, IsHeader, captured_length, entry_bytes}
 
 -- the first bytes of a record: its header says how many follow it, and these are no more
 abbrev pub IsWithinRecord : Endianness → List ℕ → Type 0
@@ -17,7 +17,7 @@ ReadsWithinRecord order old new = (part : List ℕ) × Consumes old new part × 
 -- the header, some records, and then bytes of the next, none where it has a greater number
 pub data IsUpToRecord (limit : ℕ) (bytes : List ℕ) : Type 0 where
   in_header : length bytes ≤ 24 → IsUpToRecord limit bytes
-  in_records : (order : Endianness) (header : List ℕ) (entries : List Entry) (part : List ℕ)
+  in_records : (order : Endianness) (header : List ℕ) (entries : List RecordEntry) (part : List ℕ)
       → IsHeader order header → AllByRecursion (IsEntry order) entries → IsWithinRecord order part
       → bytes ≡ header ++ (flat_map entry_bytes entries ++ part)
       → length entries ≤ limit → (part ≡ []) ⊎ (length entries < limit)
@@ -31,7 +31,7 @@ ReadsUpToRecord limit old new = (bytes : List ℕ) × Consumes old new bytes × 
 pub record HasRead (order : Endianness) (count : ℕ) (old new : Option (List ℕ)) : Type 0 where
   pub bytes : List ℕ
   pub header : List ℕ
-  pub entries : List Entry
+  pub entries : List RecordEntry
   pub consumed : Consumes old new bytes
   pub is_header : IsHeader order header
   pub each : AllByRecursion (IsEntry order) entries

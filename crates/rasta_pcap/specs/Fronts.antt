@@ -1,5 +1,6 @@
 -- The header of a record, as far as a reader gave it.
-use Rattle.std.specs.Prelude.{ℕ, ◌+◌, List, length, nat_lt, nat_le, ◌==◌, if◌then◌else◌, Option, Some, None, Result, Ok, Err}
+use Rattle.std.specs.Prelude.{ℕ, ◌+◌, List, length, nat_lt, nat_le, ◌==◌, if◌then◌else◌, Option, Some, None, Result, Ok}
+use Rattle.std.specs.Prelude.{Err}
 use Rattle.rasta_pcap.specs.declared.fault.Fault.{Fault}
 use Rattle.rasta_pcap.specs.declared.pcap.Endianness.{Endianness}
 use Rattle.rasta_pcap.specs.Fault.{fault_at, cut_record, too_many, record_too_long}

@@ -13,4 +13,5 @@ NotesOn notes old new bytes = (passed : List ℕ) → notes old passed → notes
 
 -- some bytes passed, and are noted
 abbrev pub PassesOn : {S : Type 0} → (S → Option (List ℕ)) → (S → List ℕ → Type 0) → S → S → Type 0
-PassesOn remaining notes old new = (bytes : List ℕ) × Consumes (remaining old) (remaining new) bytes × NotesOn notes old new bytes
+PassesOn remaining notes old new = (bytes : List ℕ) × Consumes (remaining old) (remaining new) bytes
+    × NotesOn notes old new bytes

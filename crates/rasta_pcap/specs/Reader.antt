@@ -1,5 +1,6 @@
 -- A stream, its reader, and one step of it.
-use Rattle.std.specs.Prelude.{◌≡◌, ◌≢◌, ℕ, ◌+◌, ◌⊎◌, List, Option, Some, None, Result, Ok, Err, OnOk, OnErr, IfOk, IfErr, MatchOption}
+use Rattle.std.specs.Prelude.{◌≡◌, ◌≢◌, ℕ, ◌+◌, ◌⊎◌, List, Option, Some, None, Result, Ok, Err, OnOk, OnErr, IfOk}
+use Rattle.std.specs.Prelude.{IfErr, MatchOption}
 use Rattle.rasta_pcap.specs.declared.fault.Fault.{Fault}
 use Rattle.rasta_pcap.specs.declared.pcap.Record.{Record}
 use Rattle.rasta_pcap.specs.declared.stream.Progress.TheVariants.{Reading}
@@ -8,7 +9,8 @@ use Rattle.rasta_pcap.specs.declared.stream.Stream.{Stream}
 use Rattle.rasta_pcap.specs.Capture.{max_captured}
 use Rattle.rasta_pcap.specs.Extent.{ReadsWithinRecord}
 use Rattle.rasta_pcap.specs.Times.{TellsTime}
-use Rattle.rasta_pcap.specs.Stream.{order_in, unit_in, time_in, count_in, progress_of, lent_by, room_in, FailsWithin, LacksMemory, ReadsRecord, MeetsEnd, RefusesRecord, again, after_answer, count_after}
+use Rattle.rasta_pcap.specs.Stream.{order_in, unit_in, time_in, count_in, progress_of, lent_by, room_in, FailsWithin}
+use Rattle.rasta_pcap.specs.Stream.{LacksMemory, ReadsRecord, MeetsEnd, RefusesRecord, again, after_answer, count_after}
 
 abbrev pub reader_of : {R : Type 0} → Stream R → R
 reader_of s = s.reader

@@ -1,5 +1,6 @@
 -- A capture that comes from a reader in pieces: what was read of it, and what that says of the whole.
-use Rattle.std.specs.Prelude.{◌≡◌, ℕ, ◌<◌, List, [], ◌++◌, take, vec_len, Bool, true, Option, Some, None, Result, Ok, Err}
+use Rattle.std.specs.Prelude.{◌≡◌, ℕ, ◌<◌, List, [], ◌++◌, take, vec_len, Bool, true, Option, Some, None, Result, Ok}
+use Rattle.std.specs.Prelude.{Err}
 use Rattle.std.specs.Io.KnownBytes.{Consumes, IsAtEnd}
 use Rattle.rasta_pcap.specs.declared.fault.Fault.{Fault}
 use Rattle.rasta_pcap.specs.declared.pcap.Endianness.{Endianness}
@@ -34,7 +35,8 @@ pub record ReadsJust (P : List ℕ → List ℕ → Type 0) (old new : Option (L
 
 -- the reader failed, and at most so many bytes were read
 abbrev pub FailsWithin : ℕ → Fault → ℕ → ℕ → Option (List ℕ) → Option (List ℕ) → Type 0
-FailsWithin most f old_count new_count old new = (f ≡ read_failed) × HasFailed old_count new_count × ReadsUpTo most old new
+FailsWithin most f old_count new_count old new = (f ≡ read_failed) × HasFailed old_count new_count
+    × ReadsUpTo most old new
 
 -- the bytes in the buffer
 abbrev pub bytes_in : RecordBuffer → List ℕ
@@ -80,7 +82,8 @@ RefusesHeader f old new = ReadsSo (λ file. opening file ≡ Err f) old new
 -- one record was read: for every file that begins so, the cursor moves after it
 abbrev pub ReadsRecord : Endianness → ℕ → Numbered → Option (List ℕ) → Option (List ℕ) → Type 0
 ReadsRecord order count r old new = ReadsJust
-    (λ rest after. (next (cursor_at order rest count) ≡ Ok (Some r)) × (cursor_after (cursor_at order rest count) ≡ cursor_at order after r.0))
+    (λ rest after. (next (cursor_at order rest count) ≡ Ok (Some r))
+        × (cursor_after (cursor_at order rest count) ≡ cursor_at order after r.0))
     old new
 
 -- nothing was read, since the file ends here

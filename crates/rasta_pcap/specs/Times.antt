@@ -13,7 +13,11 @@ unit_of order file = if number_in order 4 file == nanoseconds then Nanoseconds e
 
 -- the time that a record's header says
 abbrev pub time_of : Endianness → FractionUnit → List ℕ → CaptureTime
-time_of order unit header = record { seconds = number_in order 4 header; fraction = number_in order 4 (drop 4 header); unit = unit }
+time_of order unit header = record {
+  seconds = number_in order 4 header;
+  fraction = number_in order 4 (drop 4 header);
+  unit = unit;
+}
 
 -- a file's header was read, and it tells this unit
 abbrev pub TellsUnit : Endianness → FractionUnit → Option (List ℕ) → Option (List ℕ) → Type 0
@@ -21,4 +25,5 @@ TellsUnit order unit old new = (bytes : List ℕ) × Consumes old new bytes × (
 
 -- a record was read, and its header says this time
 abbrev pub TellsTime : Endianness → FractionUnit → Option CaptureTime → Option (List ℕ) → Option (List ℕ) → Type 0
-TellsTime order unit time old new = (bytes : List ℕ) × Consumes old new bytes × (time ≡ Some (time_of order unit (take 16 bytes)))
+TellsTime order unit time old new = (bytes : List ℕ) × Consumes old new bytes
+    × (time ≡ Some (time_of order unit (take 16 bytes)))

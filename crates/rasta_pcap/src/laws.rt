@@ -4,7 +4,7 @@ ghost use Rattle.std.specs.List.{range_with_len};
 ghost use Rattle.rasta_pcap.specs.declared.fault.Fault.{Fault};
 ghost use Rattle.rasta_pcap.specs.declared.pcap.Endianness.{Endianness};
 ghost use Rattle.rasta_pcap.specs.Fault.{fault_at};
-ghost use Rattle.rasta_pcap.specs.Capture.{Cursor, IsHeader, IsCapture, IsRefused, Numbered, max_records, opening, reading_of, bytes_of};
+ghost use Rattle.rasta_pcap.specs.Capture.{FileCursor, IsHeader, IsCapture, IsRefusedFile, Numbered, max_records, opening, reading_of, bytes_of};
 
 /// A file is opened exactly where its first 24 bytes are a header that is read, and a header is
 /// read in one byte order alone.
@@ -13,7 +13,7 @@ pub fn header_is_read()
     ensures opened { (file : List ℕ) (order : Endianness) → IsHeader order (take 24 file)
         → opening file ≡ Ok (record { order = order; rest = drop 24 file; count = 0 }) }
     // A file is opened only there, and in the order of its header.
-    ensures only { (file : List ℕ) (c : Cursor) → opening file ≡ Ok c
+    ensures only { (file : List ℕ) (c : FileCursor) → opening file ≡ Ok c
         → IsHeader c.order (take 24 file)
         × (c ≡ record { order = c.order; rest = drop 24 file; count = 0 }) }
     // No header is one in both orders.
@@ -42,19 +42,19 @@ pub fn refusal_is_read()
     // What is read before a record's fault are the records of the file there.
     ensures read { (limit : ℕ) (file : List ℕ) (fault : Fault)
         → (reading_of limit file).fault ≡ Some fault → 0 < fault.place
-        → IsRefused limit file (bytes_of (reading_of limit file)) fault }
+        → IsRefusedFile limit file (bytes_of (reading_of limit file)) fault }
     // The records before a refusal are read, and then its fault.
     ensures only { (limit : ℕ) (file : List ℕ) (records : List (List ℕ)) (fault : Fault)
-        → limit ≤ max_records + 1 → IsRefused limit file records fault
+        → limit ≤ max_records + 1 → IsRefusedFile limit file records fault
         → (bytes_of (reading_of limit file) ≡ records)
         × ((reading_of limit file).fault ≡ Some fault) }
     // The refusal names the first record that isn't there.
     ensures place { (limit : ℕ) (file : List ℕ) (records : List (List ℕ)) (fault : Fault)
-        → IsRefused limit file records fault
+        → IsRefusedFile limit file records fault
         → fault ≡ fault_at fault.number (length records + 1) }
     // The records before a refusal are those of the same file, as far as there.
     ensures before { (limit : ℕ) (file : List ℕ) (records : List (List ℕ)) (fault : Fault)
-        → IsRefused limit file records fault → IsCapture (fault.place - 1) file records }
+        → IsRefusedFile limit file records fault → IsCapture (fault.place - 1) file records }
 {}
 
 /// A fault that names no record is the header's.

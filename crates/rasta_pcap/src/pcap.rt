@@ -1,6 +1,6 @@
 //! The records of a capture file, in order.
 ghost use Rattle.std.specs.Prelude.{◌≡◌, ◌+◌, ◌≤◌, length, drop, option_map, MatchResult};
-ghost use Rattle.rasta_pcap.specs.Capture.{Cursor, max_records, moved, next, number_in, opening, order_of};
+ghost use Rattle.rasta_pcap.specs.Capture.{FileCursor, max_records, moved, next, number_in, opening, order_of};
 
 use crate::fault::Fault;
 use byteorder::{BigEndian, ByteOrder, LittleEndian};
@@ -80,7 +80,7 @@ pub struct Pcap<'a> {
 }
 
 impl<'a> Model for Pcap<'a> {
-    ghost Value = { Cursor };
+    ghost Value = { FileCursor };
 
     ghost view = { λ p. record { order = p.order; rest = p.rest.now; count = p.count } };
 

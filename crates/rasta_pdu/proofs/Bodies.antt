@@ -7,11 +7,11 @@ use Rattle.byteorder.specs.Endian.{little_bytes}
 use Rattle.byteorder.specs.Numbers.{little_number-reads_back}
 use Rattle.rasta_pdu.specs.declared.kind.Kind.{Kind}
 use Rattle.rasta_pdu.specs.declared.kind.Kind.TheVariants.{ConnectionRequest, ConnectionResponse, RetransmissionRequest, RetransmissionResponse, DisconnectionRequest, Heartbeat, Data, RetransmittedData}
-use Rattle.rasta_pdu.specs.Pdu.{SafetyBody, Opening, Bye, Messages, Empty, Layout, OpeningFields, ByeFields, MessageList, Nothing, HasLayout, payload_of, layout_of, body_in, body_at, number_at, is_version, type_of, kind_of}
+use Rattle.rasta_pdu.specs.Pdu.{SafetyBody, Opening, Bye, Messages, Empty, Layout, OpeningFields, ByeFields, MessageList, Nothing, HasLayout, payload_of, layout_of, body_in, body_at, little_at, is_version, type_of, kind_of}
 use Rattle.rasta_pdu.specs.Lengths.{has_payload_length}
 use Rattle.rasta_pdu.specs.Messages.{are_messages}
 use Rattle.rasta_pdu.specs.Messages.{AreBytes}
-use Rattle.rasta_pdu.proofs.Numbers.{two_at, number_at-lt}
+use Rattle.rasta_pdu.proofs.Numbers.{two_at, little_at-lt}
 
 -- a type number is that of its kind alone
 pub kind_of-type_of : (kind : Kind) → kind_of (type_of kind) ≡ Some kind
@@ -73,11 +73,11 @@ opening_length xs body h =
     (and_parts (nat_eq (length xs) 14) (is_version (take 4 xs)) read.0).0
 
 -- two numbers fill four bytes
-two_numbers : (xs : List ℕ) → AreBytes xs → length xs ≡ 4 → xs ≡ little_bytes 2 (number_at 2 0 xs) ++ little_bytes 2 (number_at 2 2 xs)
+two_numbers : (xs : List ℕ) → AreBytes xs → length xs ≡ 4 → xs ≡ little_bytes 2 (little_at 2 0 xs) ++ little_bytes 2 (little_at 2 2 xs)
 two_numbers xs are size =
     two_at 0 xs are (omega arith)
-    ∙ ap (λ (l : List ℕ). little_bytes 2 (number_at 2 0 xs) ++ l) (two_at 2 xs are (omega arith)
-    ∙ ap (λ (l : List ℕ). little_bytes 2 (number_at 2 2 xs) ++ l) (drop_all 4 xs (omega arith)))
+    ∙ ap (λ (l : List ℕ). little_bytes 2 (little_at 2 0 xs) ++ l) (two_at 2 xs are (omega arith)
+    ∙ ap (λ (l : List ℕ). little_bytes 2 (little_at 2 2 xs) ++ l) (drop_all 4 xs (omega arith)))
 
 -- a version, N_sendmax and eight reserved bytes fill fourteen
 opening_spelled : (xs : List ℕ) → AreBytes xs → length xs ≡ 14 → xs ≡ payload_of (body_at OpeningFields xs)
@@ -116,22 +116,22 @@ has_payload_length-body_in RetransmittedData xs body h = refl
 -- a payload that is read is the spelling of its body
 pub body_in-Some : (layout : Layout) (xs : List ℕ) (body : SafetyBody) → AreBytes xs → body_in layout xs ≡ Some body → IsBodyOf layout xs body
 body_in-Some OpeningFields xs body are h =
-    let opening : SafetyBody = Opening (take 4 xs) (number_at 2 4 xs) (drop 6 xs) in
+    let opening : SafetyBody = Opening (take 4 xs) (little_at 2 4 xs) (drop 6 xs) in
     let read = some_if _ opening body h in
     let tests = and_parts (nat_eq (length xs) 14) (is_version (take 4 xs)) read.0 in
     let size : length xs ≡ 14 = eqb-true (length xs) 14 tests.0 in
     let left : length (drop 6 xs) ≡ 8 = rw length-drop (omega arith) in
     let P : SafetyBody → Type 0 = IsBodyOf OpeningFields xs in
     subst P read.1 (record {
-      has = (tests.1, number_at-lt 2 4 xs are, left);
+      has = (tests.1, little_at-lt 2 4 xs are, left);
       spelled = opening_spelled xs are size;
     })
 body_in-Some ByeFields xs body are h =
-    let bye : SafetyBody = Bye (number_at 2 0 xs) (number_at 2 2 xs) in
+    let bye : SafetyBody = Bye (little_at 2 0 xs) (little_at 2 2 xs) in
     let read = some_if _ bye body h in
     let P : SafetyBody → Type 0 = IsBodyOf ByeFields xs in
     subst P read.1 (record {
-      has = (number_at-lt 2 0 xs are, number_at-lt 2 2 xs are);
+      has = (little_at-lt 2 0 xs are, little_at-lt 2 2 xs are);
       spelled = two_numbers xs are (eqb-true (length xs) 4 read.0);
     })
 body_in-Some MessageList xs body are h =
@@ -167,7 +167,7 @@ body_in-payload_of OpeningFields (Opening version sendmax reserved) h =
 body_in-payload_of ByeFields (Bye detail reason) h =
     let first = little_number-reads_back 2 detail (little_bytes 2 reason) h.0 in
     let second = little_number-reads_back 2 reason [] h.1 in
-    ap (λ (n : ℕ). Some (Bye n (number_at 2 2 (little_bytes 2 detail ++ little_bytes 2 reason)))) first ∙ ap (λ (n : ℕ). Some (Bye detail n)) second
+    ap (λ (n : ℕ). Some (Bye n (little_at 2 2 (little_bytes 2 detail ++ little_bytes 2 reason)))) first ∙ ap (λ (n : ℕ). Some (Bye detail n)) second
 body_in-payload_of MessageList (Messages payload) h = if_true (are_messages payload) (Messages payload) h
 body_in-payload_of Nothing Empty h = refl
 body_in-payload_of OpeningFields (Bye detail reason) h = absurd h

@@ -6,7 +6,7 @@ use Rattle.std.proofs.lemmas.Bool.{cases_lt}
 use Rattle.byteorder.specs.Endian.{little_bytes, little_number, little_from}
 use Rattle.byteorder.specs.Numbers.{little_from-append, little_from-lt}
 use Rattle.rasta_pdu.specs.Messages.{AreBytes}
-use Rattle.rasta_pdu.specs.Pdu.{number_at}
+use Rattle.rasta_pdu.specs.Pdu.{little_at}
 
 -- bytes from a place on are bytes
 pub AreBytes-drop : (at : ℕ) (xs : List ℕ) → AreBytes xs → AreBytes (drop at xs)
@@ -47,20 +47,20 @@ two xs are long =
     with_front 2 xs (le_bytes_2 (take 2 xs) (little_number 2 xs) front (take_fits 2 xs are long) (omega (arith, same)))
 
 -- four bytes at a place are those of their number
-pub four_at : (at : ℕ) (xs : List ℕ) → AreBytes xs → at + 4 ≤ length xs → drop at xs ≡ little_bytes 4 (number_at 4 at xs) ++ drop (at + 4) xs
+pub four_at : (at : ℕ) (xs : List ℕ) → AreBytes xs → at + 4 ≤ length xs → drop at xs ≡ little_bytes 4 (little_at 4 at xs) ++ drop (at + 4) xs
 four_at at xs are long =
     four (drop at xs) (AreBytes-drop at xs are) (rw length-drop (omega arith))
-    ∙ ap (λ l. little_bytes 4 (number_at 4 at xs) ++ l) (drop-drop 4 at xs)
+    ∙ ap (λ l. little_bytes 4 (little_at 4 at xs) ++ l) (drop-drop 4 at xs)
 
 -- two bytes at a place are those of their number
-pub two_at : (at : ℕ) (xs : List ℕ) → AreBytes xs → at + 2 ≤ length xs → drop at xs ≡ little_bytes 2 (number_at 2 at xs) ++ drop (at + 2) xs
+pub two_at : (at : ℕ) (xs : List ℕ) → AreBytes xs → at + 2 ≤ length xs → drop at xs ≡ little_bytes 2 (little_at 2 at xs) ++ drop (at + 2) xs
 two_at at xs are long =
     two (drop at xs) (AreBytes-drop at xs are) (rw length-drop (omega arith))
-    ∙ ap (λ l. little_bytes 2 (number_at 2 at xs) ++ l) (drop-drop 2 at xs)
+    ∙ ap (λ l. little_bytes 2 (little_at 2 at xs) ++ l) (drop-drop 2 at xs)
 
 -- so many bytes spell a number below that power
-pub number_at-lt : (n at : ℕ) (xs : List ℕ) → AreBytes xs → number_at n at xs < 256 ^ n
-number_at-lt n at xs are = little_from-lt 0 n (drop at xs) (AreBytes-drop at xs are).fits
+pub little_at-lt : (n at : ℕ) (xs : List ℕ) → AreBytes xs → little_at n at xs < 256 ^ n
+little_at-lt n at xs are = little_from-lt 0 n (drop at xs) (AreBytes-drop at xs are).fits
 
 -- the first of some bytes are bytes
 pub AreBytes-take : (n : ℕ) (xs : List ℕ) → AreBytes xs → AreBytes (take n xs)

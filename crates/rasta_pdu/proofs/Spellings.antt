@@ -13,10 +13,10 @@ use Rattle.rasta_pcap.specs.declared.fault.Side.{Side}
 use Rattle.rasta_pdu.specs.declared.kind.Kind.{Kind}
 use Rattle.rasta_pdu.specs.declared.pdu.Pdu.{Pdu}
 use Rattle.rasta_pdu.specs.Params.{Parameters, AreParameters}
-use Rattle.rasta_pdu.specs.Pdu.{SafetyBody, SafetyPdu, RedundancyPdu, IsRedundancyPdu, layout_of, type_of, kind_of, payload_of, body_in, body_at, length_of, uncoded_bytes, code_over, code_of, redundancy_bytes, receiver_of, sender_of, number_at, check_at, code_at, has_length, has_fields, has_safety_length, has_code, has_ids, fields_of, refused, decode_body, decode_kind, decode_of, value_of}
+use Rattle.rasta_pdu.specs.Pdu.{SafetyBody, SafetyPdu, RedundancyPdu, IsRedundancyPdu, layout_of, type_of, kind_of, payload_of, body_in, body_at, length_of, uncoded_bytes, code_over, code_of, redundancy_bytes, receiver_of, sender_of, little_at, check_at, code_at, has_length, has_fields, has_safety_length, has_code, has_ids, pdu_with_body, refused, decode_body, decode_kind, decode_of, value_of}
 use Rattle.rasta_pdu.specs.Lengths.{has_payload_length}
 use Rattle.rasta_pdu.specs.Messages.{AreBytes}
-use Rattle.rasta_pdu.proofs.Numbers.{AreBytes-drop, AreBytes-take, two_at, four_at, number_at-lt}
+use Rattle.rasta_pdu.proofs.Numbers.{AreBytes-drop, AreBytes-take, two_at, four_at, little_at-lt}
 use Rattle.rasta_pdu.proofs.Places.{first_part, second_part, third_part, length-three, three_parts, length-slice_range}
 use Rattle.rasta_pdu.proofs.Bodies.{kind_of-type_of, type_of-kind_of, type_of-lt, IsBodyOf, body_in-Some, body_in-payload_of, body_at-body_in, has_payload_length-body_in}
 
@@ -83,7 +83,7 @@ record IsPassed (p : Parameters) (side : Side) (xs : List ℕ) (kind : Kind) (bo
   length : has_length xs ≡ true
   fields : has_fields p xs ≡ true
   safety : has_safety_length p xs ≡ true
-  type : kind_of (number_at 2 10 xs) ≡ Some kind
+  type : kind_of (little_at 2 10 xs) ≡ Some kind
   payload : body_in (layout_of kind) (slice_range xs 36 (code_at p xs)) ≡ Some body
   code : has_code p xs ≡ true
   ids : has_ids p side xs ≡ true
@@ -92,26 +92,26 @@ pass : (b : Bool) (x y : Answer) → b ≡ true → cond b x y ≡ x
 pass b x y h = ap (λ (t : Bool). cond t x y) h
 
 abbrev after_code : Parameters → Side → List ℕ → Kind → SafetyBody → Answer
-after_code p side xs kind body = cond (has_ids p side xs) (Ok (fields_of kind body (check_at p xs) xs)) (refused 26)
+after_code p side xs kind body = cond (has_ids p side xs) (Ok (pdu_with_body kind body (check_at p xs) xs)) (refused 26)
 
 abbrev after_fields : Parameters → Side → List ℕ → Answer
-after_fields p side xs = cond (has_safety_length p xs) (decode_kind p side xs (kind_of (number_at 2 10 xs))) (refused 22)
+after_fields p side xs = cond (has_safety_length p xs) (decode_kind p side xs (kind_of (little_at 2 10 xs))) (refused 22)
 
 abbrev after_length : Parameters → Side → List ℕ → Answer
 after_length p side xs = cond (has_fields p xs) (after_fields p side xs) (refused 21)
 
 -- a datagram that passes is read
 passed : (p : Parameters) (side : Side) (xs : List ℕ) (kind : Kind) (body : SafetyBody) → IsPassed p side xs kind body
-    → decode_of p side xs ≡ Ok (fields_of kind body (check_at p xs) xs)
+    → decode_of p side xs ≡ Ok (pdu_with_body kind body (check_at p xs) xs)
 unfolding decode_of
 passed p side xs kind body is =
     pass (has_length xs) (after_length p side xs) (refused 20) is.length
     ∙ pass (has_fields p xs) (after_fields p side xs) (refused 21) is.fields
-    ∙ pass (has_safety_length p xs) (decode_kind p side xs (kind_of (number_at 2 10 xs))) (refused 22) is.safety
+    ∙ pass (has_safety_length p xs) (decode_kind p side xs (kind_of (little_at 2 10 xs))) (refused 22) is.safety
     ∙ ap (decode_kind p side xs) is.type
     ∙ ap (decode_body p side xs kind) is.payload
     ∙ pass (has_code p xs) (after_code p side xs kind body) (refused 25) is.code
-    ∙ pass (has_ids p side xs) (Ok (fields_of kind body (check_at p xs) xs)) (refused 26) is.ids
+    ∙ pass (has_ids p side xs) (Ok (pdu_with_body kind body (check_at p xs) xs)) (refused 26) is.ids
 
 guard : (b : Bool) (x : Answer) (n : ℕ) (r : RedundancyPdu) → cond b x (refused n) ≡ Ok r → (b ≡ true) × (x ≡ Ok r)
 guard true x n r h = (refl, h)
@@ -145,7 +145,7 @@ record IsFound (p : Parameters) (side : Side) (xs : List ℕ) (r : RedundancyPdu
   kind : Kind
   body : SafetyBody
   tests : IsPassed p side xs kind body
-  value : fields_of kind body (check_at p xs) xs ≡ r
+  value : pdu_with_body kind body (check_at p xs) xs ≡ r
 
 -- a datagram that is read has passed
 found : (p : Parameters) (side : Side) (xs : List ℕ) (r : RedundancyPdu) → decode_of p side xs ≡ Ok r → IsFound p side xs r
@@ -153,11 +153,11 @@ unfolding decode_of
 found p side xs r h =
     let g1 = guard (has_length xs) (after_length p side xs) 20 r h in
     let g2 = guard (has_fields p xs) (after_fields p side xs) 21 r g1.1 in
-    let g3 = guard (has_safety_length p xs) (decode_kind p side xs (kind_of (number_at 2 10 xs))) 22 r g2.1 in
-    let g4 = some_kind p side xs r (kind_of (number_at 2 10 xs)) g3.1 in
+    let g3 = guard (has_safety_length p xs) (decode_kind p side xs (kind_of (little_at 2 10 xs))) 22 r g2.1 in
+    let g4 = some_kind p side xs r (kind_of (little_at 2 10 xs)) g3.1 in
     let g5 = some_body p side xs r g4.known (body_in (layout_of g4.known) (slice_range xs 36 (code_at p xs))) g4.rest in
     let g6 = guard (has_code p xs) (after_code p side xs g4.known g5.body) 25 r g5.rest in
-    let g7 = guard (has_ids p side xs) (Ok (fields_of g4.known g5.body (check_at p xs) xs)) 26 r g6.1 in
+    let g7 = guard (has_ids p side xs) (Ok (pdu_with_body g4.known g5.body (check_at p xs) xs)) 26 r g6.1 in
     record {
       kind = g4.known;
       body = g5.body;
@@ -169,23 +169,23 @@ found p side xs r h =
 pub record IsDecoded (p : Parameters) (side : Side) (xs : List ℕ) : Type 0 where
   pub long : 36 + p.code_length + p.check_length ≤ length xs
   pub short : AreBytes xs → length xs < 2 ^ 16
-  pub kind : kind_of (number_at 2 10 xs) ≡ None → ⊥
-  pub payload : (known : Kind) → kind_of (number_at 2 10 xs) ≡ Some known → has_payload_length known (code_at p xs - 36) ≡ true
-  pub value : (known : Kind) → kind_of (number_at 2 10 xs) ≡ Some known
-      → decode_of p side xs ≡ Ok (fields_of known (body_at (layout_of known) (slice_range xs 36 (code_at p xs))) (check_at p xs) xs)
+  pub kind : kind_of (little_at 2 10 xs) ≡ None → ⊥
+  pub payload : (known : Kind) → kind_of (little_at 2 10 xs) ≡ Some known → has_payload_length known (code_at p xs - 36) ≡ true
+  pub value : (known : Kind) → kind_of (little_at 2 10 xs) ≡ Some known
+      → decode_of p side xs ≡ Ok (pdu_with_body known (body_at (layout_of known) (slice_range xs 36 (code_at p xs))) (check_at p xs) xs)
 
 -- what the tests found, for the kind that is known
 is_decoded_by : (p : Parameters) (side : Side) (xs : List ℕ) (kind known : Kind) (body : SafetyBody) → IsPassed p side xs kind body → kind ≡ known
     → (has_payload_length known (length (slice_range xs 36 (code_at p xs))) ≡ true)
-    × (decode_of p side xs ≡ Ok (fields_of known (body_at (layout_of known) (slice_range xs 36 (code_at p xs))) (check_at p xs) xs))
+    × (decode_of p side xs ≡ Ok (pdu_with_body known (body_at (layout_of known) (slice_range xs 36 (code_at p xs))) (check_at p xs) xs))
 is_decoded_by p side xs kind known body is e =
     let b : List ℕ = slice_range xs 36 (code_at p xs) in
     let P : Kind → Type 0 = λ k. (has_payload_length k (length b) ≡ true)
-    × (decode_of p side xs ≡ Ok (fields_of k (body_at (layout_of k) b) (check_at p xs) xs)) in
+    × (decode_of p side xs ≡ Ok (pdu_with_body k (body_at (layout_of k) b) (check_at p xs) xs)) in
     subst P e (
       has_payload_length-body_in kind b body is.payload,
       passed p side xs kind body is
-          ∙ ap (λ (o : SafetyBody). Ok (fields_of kind o (check_at p xs) xs)) (sym (body_at-body_in (layout_of kind) b body is.payload)),
+          ∙ ap (λ (o : SafetyBody). Ok (pdu_with_body kind o (check_at p xs) xs)) (sym (body_at-body_in (layout_of kind) b body is.payload)),
     )
 
 pub is_decoded : (p : Parameters) (side : Side) (xs : List ℕ) (r : RedundancyPdu) → decode_of p side xs ≡ Ok r → IsDecoded p side xs
@@ -196,8 +196,8 @@ is_decoded p side xs r h =
     record {
       long = long;
       short = λ are.
-          let low = number_at-lt 2 0 xs are in
-          let whole = eqb-true (number_at 2 0 xs) (length xs) (and_parts (nat_le 2 (length xs)) (nat_eq (number_at 2 0 xs) (length xs)) f.tests.length).1 in
+          let low = little_at-lt 2 0 xs are in
+          let whole = eqb-true (little_at 2 0 xs) (length xs) (and_parts (nat_le 2 (length xs)) (nat_eq (little_at 2 0 xs) (length xs)) f.tests.length).1 in
           omega arith;
       kind = λ none. clash_kind (sym none ∙ f.tests.type);
       payload = λ known some. ap (has_payload_length known) (sym size) ∙ (is_decoded_by p side xs f.kind known f.body f.tests (same_kind (sym f.tests.type ∙ some))).0;
@@ -245,9 +245,9 @@ same_value kind body a b c d e f a' b' c' d' e' f' k k' ea eb ec ed ee ef ek = r
 
 -- what the spelling of a value shows of it, whatever the ids
 record IsSpelled (p : Parameters) (r : RedundancyPdu) (xs : List ℕ) : Type 0 where
-  type : kind_of (number_at 2 10 xs) ≡ Some r.safety.kind
+  type : kind_of (little_at 2 10 xs) ≡ Some r.safety.kind
   payload : body_in (layout_of r.safety.kind) (slice_range xs 36 (code_at p xs)) ≡ Some r.safety.body
-  value : fields_of r.safety.kind r.safety.body (check_at p xs) xs ≡ r
+  value : pdu_with_body r.safety.kind r.safety.body (check_at p xs) xs ≡ r
 
 parts_of : (p : Parameters) (side : Side) (r : RedundancyPdu) → AreParameters p → IsRedundancyPdu p r
     → HasParts p (redundancy_bytes p side r) (uncoded_bytes p side r.safety) (payload_of r.safety.body) (code_of p side r.safety) r.check_bytes
@@ -272,7 +272,7 @@ is_spelled p side r are is =
     let s : SafetyPdu = r.safety in
     let xs : List ℕ = redundancy_bytes p side r in
     let parts = parts_of p side r are is in
-    let n10 : number_at 2 10 xs ≡ type_of s.kind = little_number-reads_back 2 (type_of s.kind) [] (type_of-lt s.kind) in
+    let n10 : little_at 2 10 xs ≡ type_of s.kind = little_number-reads_back 2 (type_of s.kind) [] (type_of-lt s.kind) in
     record {
       type = ap kind_of n10 ∙ kind_of-type_of s.kind;
       payload = ap (body_in (layout_of s.kind)) parts.payload ∙ body_in-payload_of (layout_of s.kind) s.body is.body;
@@ -294,18 +294,18 @@ decode_of-redundancy_bytes p side r are to from is =
     let parts = parts_of p side r are is in
     let spelled = is_spelled p side r are is in
     let size : length xs ≡ length_of p r = length-redundancy_bytes p side r are is in
-    let n0 : number_at 2 0 xs ≡ length_of p r = little_number-reads_back 2 (length_of p r) [] is.size in
-    let n8 : number_at 2 8 xs ≡ d = little_number-reads_back 2 d [] (omega arith) in
-    let n12 : number_at 4 12 xs ≡ receiver_of p side = little_number-reads_back 4 (receiver_of p side) [] to in
-    let n16 : number_at 4 16 xs ≡ sender_of p side = little_number-reads_back 4 (sender_of p side) [] from in
+    let n0 : little_at 2 0 xs ≡ length_of p r = little_number-reads_back 2 (length_of p r) [] is.size in
+    let n8 : little_at 2 8 xs ≡ d = little_number-reads_back 2 d [] (omega arith) in
+    let n12 : little_at 4 12 xs ≡ receiver_of p side = little_number-reads_back 4 (receiver_of p side) [] to in
+    let n16 : little_at 4 16 xs ≡ sender_of p side = little_number-reads_back 4 (sender_of p side) [] from in
     passed p side xs s.kind s.body (record {
-      length = is_whole (number_at 2 0 xs) (length xs) (omega arith) (omega arith);
+      length = is_whole (little_at 2 0 xs) (length xs) (omega arith) (omega arith);
       fields = is_most (36 + p.code_length + p.check_length) (length xs) (omega arith);
-      safety = is_same (number_at 2 8 xs) (check_at p xs - 8) (omega arith);
+      safety = is_same (little_at 2 8 xs) (check_at p xs - 8) (omega arith);
       type = spelled.type;
       payload = spelled.payload;
       code = same_bytes _ _ (ap (code_over p) parts.covered ∙ sym parts.code);
-      ids = are_same (number_at 4 12 xs) (receiver_of p side) (number_at 4 16 xs) (sender_of p side) n12 n16;
+      ids = are_same (little_at 4 12 xs) (receiver_of p side) (little_at 4 16 xs) (sender_of p side) n12 n16;
     })
     ∙ ap (λ (v : RedundancyPdu). Ok v) spelled.value
 
@@ -315,8 +315,8 @@ unique p xs r s a b =
     let kinds : r.safety.kind ≡ s.safety.kind = same_kind (sym a.type ∙ b.type) in
     let bodies : r.safety.body ≡ s.safety.body = same_body (sym a.payload
     ∙ ap (λ (k : Kind). body_in (layout_of k) (slice_range xs 36 (code_at p xs))) kinds ∙ b.payload) in
-    sym a.value ∙ ap (λ (k : Kind). fields_of k r.safety.body (check_at p xs) xs) kinds
-    ∙ ap (λ (o : SafetyBody). fields_of s.safety.kind o (check_at p xs) xs) bodies ∙ b.value
+    sym a.value ∙ ap (λ (k : Kind). pdu_with_body k r.safety.body (check_at p xs) xs) kinds
+    ∙ ap (λ (o : SafetyBody). pdu_with_body s.safety.kind o (check_at p xs) xs) bodies ∙ b.value
   where
     same_kind : {x y : Kind} → ◌≡◌ {A = Option Kind} (Some x) (Some y) → x ≡ y
     same_kind {x} {y} h = cc
@@ -340,10 +340,10 @@ pub record IsRead (p : Parameters) (side : Side) (xs : List ℕ) (r : Redundancy
 
 -- thirty-six bytes are eleven numbers, one after the other
 numbers : (xs b c k : List ℕ) → AreBytes xs → 36 ≤ length xs → drop 36 xs ≡ (b ++ c) ++ k
-    → xs ≡ datagram (number_at 2 0 xs) (number_at 2 2 xs) (number_at 4 4 xs) (uncoded (number_at 2 8 xs) (number_at 2 10 xs) (number_at 4 12 xs)
-    (number_at 4 16 xs) (number_at 4 20 xs) (number_at 4 24 xs) (number_at 4 28 xs) (number_at 4 32 xs) b ++ c) k
+    → xs ≡ datagram (little_at 2 0 xs) (little_at 2 2 xs) (little_at 4 4 xs) (uncoded (little_at 2 8 xs) (little_at 2 10 xs) (little_at 4 12 xs)
+    (little_at 4 16 xs) (little_at 4 20 xs) (little_at 4 24 xs) (little_at 4 28 xs) (little_at 4 32 xs) b ++ c) k
 numbers xs b c k are long rest =
-    let here : (n at : ℕ) → List ℕ → List ℕ = λ n at l. little_bytes n (number_at n at xs) ++ l in
+    let here : (n at : ℕ) → List ℕ → List ℕ = λ n at l. little_bytes n (little_at n at xs) ++ l in
     two_at 0 xs are (omega arith) ∙ ap (here 2 0) (two_at 2 xs are (omega arith) ∙ ap (here 2 2) (four_at 4 xs are (omega arith)
     ∙ ap (here 4 4) (two_at 8 xs are (omega arith) ∙ ap (here 2 8) (two_at 10 xs are (omega arith) ∙ ap (here 2 10) (four_at 12 xs are (omega arith)
     ∙ ap (here 4 12) (four_at 16 xs are (omega arith) ∙ ap (here 4 16) (four_at 20 xs are (omega arith) ∙ ap (here 4 20) (four_at 24 xs are (omega arith)
@@ -356,7 +356,7 @@ same_uncoded d e f g h i j k d' e' f' g' b b' ed ee ef eg eb =
     ∙ ap (λ x. uncoded d' e' f' x h i j k b) eg ∙ ap (λ x. uncoded d' e' f' g' h i j k x) eb
 
 spelled_value : (p : Parameters) (side : Side) (xs : List ℕ) (kind : Kind) (body : SafetyBody) → AreParameters p → AreBytes xs
-    → IsPassed p side xs kind body → IsRead p side xs (fields_of kind body (check_at p xs) xs)
+    → IsPassed p side xs kind body → IsRead p side xs (pdu_with_body kind body (check_at p xs) xs)
 unfolding redundancy_bytes
 spelled_value p side xs kind body valid are is =
     let long : 36 + p.code_length + p.check_length ≤ length xs = leb-true (36 + p.code_length + p.check_length) (length xs) is.fields in
@@ -369,7 +369,7 @@ spelled_value p side xs kind body valid are is =
     let lc : length c ≡ p.code_length = length-slice_range xs at end (omega arith) (omega arith) ∙ omega arith in
     let lk : length k ≡ p.check_length = length-drop end xs ∙ omega arith in
     let rest : drop 36 xs ≡ (b ++ c) ++ k = three_parts xs 36 at end (omega arith) (omega arith) in
-    let n : ℕ → ℕ → ℕ = λ w i. number_at w i xs in
+    let n : ℕ → ℕ → ℕ = λ w i. little_at w i xs in
     let u : List ℕ = uncoded (n 2 8) (n 2 10) (n 4 12) (n 4 16) (n 4 20) (n 4 24) (n 4 28) (n 4 32) b in
     let whole : xs ≡ datagram (n 2 0) (n 2 2) (n 4 4) (u ++ c) k = numbers xs b c k are (omega arith) rest in
     let parts = has_parts p (n 2 0) (n 2 2) (n 4 4) (n 2 8) (n 2 10) (n 4 12) (n 4 16) (n 4 20) (n 4 24) (n 4 28) (n 4 32) b c k lc lk in
@@ -380,7 +380,7 @@ spelled_value p side xs kind body valid are is =
     let size : n 2 0 ≡ length xs = eqb-true (n 2 0) (length xs) (and_parts (nat_le 2 (length xs)) (nat_eq (n 2 0) (length xs)) is.length).1 in
     let part : n 2 8 ≡ end - 8 = eqb-true (n 2 8) (end - 8) is.safety in
     let ids = and_parts (nat_eq (n 4 12) (receiver_of p side)) (nat_eq (n 4 16) (sender_of p side)) is.ids in
-    let r : RedundancyPdu = fields_of kind body end xs in
+    let r : RedundancyPdu = pdu_with_body kind body end xs in
     let v : List ℕ = uncoded_bytes p side r.safety in
     let uv : u ≡ v = same_uncoded (n 2 8) (n 2 10) (n 4 12) (n 4 16) (n 4 20) (n 4 24) (n 4 28) (n 4 32) (28 + length (payload_of body) + p.code_length)
     (type_of kind) (receiver_of p side) (sender_of p side) b (payload_of body) (omega arith) (sym (type_of-kind_of (n 2 10) kind is.type))
@@ -389,14 +389,14 @@ spelled_value p side xs kind body valid are is =
     let total : n 2 0 ≡ length_of p r = omega arith in
     record {
       is = record {
-        reserve = number_at-lt 2 2 xs are;
-        number = number_at-lt 4 4 xs are;
-        sn = number_at-lt 4 20 xs are;
-        cs = number_at-lt 4 24 xs are;
-        ts = number_at-lt 4 28 xs are;
-        cts = number_at-lt 4 32 xs are;
+        reserve = little_at-lt 2 2 xs are;
+        number = little_at-lt 4 4 xs are;
+        sn = little_at-lt 4 20 xs are;
+        cs = little_at-lt 4 24 xs are;
+        ts = little_at-lt 4 28 xs are;
+        cts = little_at-lt 4 32 xs are;
         body = payload.has;
-        size = let low = number_at-lt 2 0 xs are in omega arith;
+        size = let low = little_at-lt 2 0 xs are in omega arith;
         check_bytes = lk;
       };
       spelled = whole ∙ ap (λ (m : ℕ). datagram m (n 2 2) (n 4 4) (u ++ c) k) total ∙ ap (λ (l : List ℕ). datagram (length_of p r) (n 2 2) (n 4 4) (l ++ c) k) uv

@@ -1,7 +1,9 @@
 -- The lengths of payloads.
 use Rattle.std.specs.Prelude.{ℕ, Bool, true, ◌==◌}
 use Rattle.rasta_pdu.specs.declared.kind.Kind.{Kind}
-use Rattle.rasta_pdu.specs.declared.kind.Kind.TheVariants.{ConnectionRequest, ConnectionResponse, RetransmissionRequest, RetransmissionResponse, DisconnectionRequest, Heartbeat, Data, RetransmittedData}
+use Rattle.rasta_pdu.specs.declared.kind.Kind.TheVariants.{ConnectionRequest, ConnectionResponse, RetransmissionRequest}
+use Rattle.rasta_pdu.specs.declared.kind.Kind.TheVariants.{RetransmissionResponse, DisconnectionRequest, Heartbeat}
+use Rattle.rasta_pdu.specs.declared.kind.Kind.TheVariants.{Data, RetransmittedData}
 
 -- a payload of this kind can have so many bytes
 abbrev pub has_payload_length : Kind → ℕ → Bool

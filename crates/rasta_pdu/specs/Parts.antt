@@ -2,11 +2,13 @@
 use Rattle.std.specs.Prelude.{ℕ, ◌≡◌, ◌<◌, ◌^◌, List, length, map, Bool, true, false, ◌&&◌, nat_lt, ◌==◌}
 use Rattle.std.specs.Borrow.{Bor}
 use Rattle.rasta_pdu.specs.declared.body.Body.{Body}
-use Rattle.rasta_pdu.specs.declared.body.Body.TheVariants.{Opening as OpeningBody, Bye as ByeBody, Messages as MessagesBody, Empty as EmptyBody}
+use Rattle.rasta_pdu.specs.declared.body.Body.TheVariants.{Opening as OpeningBody, Bye as ByeBody}
+use Rattle.rasta_pdu.specs.declared.body.Body.TheVariants.{Messages as MessagesBody, Empty as EmptyBody}
 use Rattle.rasta_pdu.specs.declared.parts.PduParts.{PduParts}
 use Rattle.rasta_pdu.specs.Params.{Parameters}
 use Rattle.rasta_pdu.specs.Messages.{payload_of_messages}
-use Rattle.rasta_pdu.specs.Pdu.{SafetyBody, Opening, Bye, Messages, Empty, RedundancyPdu, Layout, OpeningFields, ByeFields, MessageList, Nothing, layout_of, is_version}
+use Rattle.rasta_pdu.specs.Pdu.{SafetyBody, Opening, Bye, Messages, Empty, RedundancyPdu, Layout, OpeningFields}
+use Rattle.rasta_pdu.specs.Pdu.{ByeFields, MessageList, Nothing, layout_of, is_version}
 
 -- a list of messages
 abbrev pub lists_of : List (Bor (List ℕ)) → List (List ℕ)

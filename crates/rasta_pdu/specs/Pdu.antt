@@ -1,17 +1,22 @@
 -- The PDUs of the two layers: their values, how they are spelled, and how bytes are read.
-use Rattle.std.specs.Prelude.{◌≡◌, ℕ, ◌+◌, ◌-◌, ◌<◌, ◌^◌, List, [], ◌∷◌, ◌++◌, length, take, drop, slice_range, Option, Some, None, Result, Ok, Err, Bool, ◌&&◌, nat_le, ◌==◌, if◌then◌else◌, IsTrue, bytes_eq}
+use Rattle.std.specs.Prelude.{◌≡◌, ℕ, ◌+◌, ◌-◌, ◌<◌, ◌^◌, List, [], ◌∷◌, ◌++◌, length, take, drop, slice_range, Option}
+use Rattle.std.specs.Prelude.{Some, None, Result, Ok, Err, Bool, ◌&&◌, nat_le, ◌==◌, if◌then◌else◌, IsTrue, bytes_eq}
 use Rattle.std.specs.List.{list_all}
 use Rattle.std.specs.Borrow.{Bor}
 use Rattle.byteorder.specs.Endian.{little_bytes, little_number}
 use Rattle.rasta_md4.specs.Md4.{md4}
-use Rattle.rasta_udp.specs.Fault.{fault_at, redundancy_length, too_short, safety_length, wrong_type, wrong_payload, wrong_code, wrong_ids}
+use Rattle.rasta_udp.specs.Fault.{fault_at, redundancy_length, too_short, safety_length, wrong_type, wrong_payload}
+use Rattle.rasta_udp.specs.Fault.{wrong_code, wrong_ids}
 use Rattle.rasta_pcap.specs.declared.fault.Fault.{Fault}
 use Rattle.rasta_pcap.specs.declared.fault.Side.{Side}
 use Rattle.rasta_pcap.specs.declared.fault.Side.TheVariants.{Client, Server}
 use Rattle.rasta_pdu.specs.declared.body.Body.{Body}
-use Rattle.rasta_pdu.specs.declared.body.Body.TheVariants.{Opening as OpeningBody, Bye as ByeBody, Messages as MessagesBody, Empty as EmptyBody}
+use Rattle.rasta_pdu.specs.declared.body.Body.TheVariants.{Opening as OpeningBody, Bye as ByeBody}
+use Rattle.rasta_pdu.specs.declared.body.Body.TheVariants.{Messages as MessagesBody, Empty as EmptyBody}
 use Rattle.rasta_pdu.specs.declared.kind.Kind.{Kind}
-use Rattle.rasta_pdu.specs.declared.kind.Kind.TheVariants.{ConnectionRequest, ConnectionResponse, RetransmissionRequest, RetransmissionResponse, DisconnectionRequest, Heartbeat, Data, RetransmittedData}
+use Rattle.rasta_pdu.specs.declared.kind.Kind.TheVariants.{ConnectionRequest, ConnectionResponse, RetransmissionRequest}
+use Rattle.rasta_pdu.specs.declared.kind.Kind.TheVariants.{RetransmissionResponse, DisconnectionRequest, Heartbeat}
+use Rattle.rasta_pdu.specs.declared.kind.Kind.TheVariants.{Data, RetransmittedData}
 use Rattle.rasta_pdu.specs.declared.messages.Messages.{Messages as MessagesLeft}
 use Rattle.rasta_pdu.specs.declared.pdu.Pdu.{Pdu}
 use Rattle.rasta_pdu.specs.Params.{Parameters}
@@ -144,19 +149,15 @@ code_over p bytes = take p.code_length (md4 p.md4_start bytes)
 abbrev pub code_of : Parameters → Side → SafetyPdu → List ℕ
 code_of p side s = code_over p (uncoded_bytes p side s)
 
--- the safety PDU that this side sends
-abbrev pub safety_bytes : Parameters → Side → SafetyPdu → List ℕ
-safety_bytes p side s = uncoded_bytes p side s ++ code_of p side s
-
 -- how many bytes a datagram has
 abbrev pub length_of : Parameters → RedundancyPdu → ℕ
 length_of p r = 36 + length (payload_of r.safety.body) + p.code_length + length r.check_bytes
 
--- the datagram: its length, the reserve, the number, the safety PDU, and the check code
+-- the datagram: its length, the reserve, the number, the safety PDU with its code, and the check code
 unfoldable pub redundancy_bytes : Parameters → Side → RedundancyPdu → List ℕ
 redundancy_bytes p side r =
     little_bytes 2 (length_of p r) ++ (little_bytes 2 r.reserve ++ (little_bytes 4 r.number
-    ++ (safety_bytes p side r.safety ++ r.check_bytes)))
+    ++ ((uncoded_bytes p side r.safety ++ code_of p side r.safety) ++ r.check_bytes)))
 
 -- a value that a connection with these parameters can send: the numbers fit their fields, the body has
 -- the layout of its kind, and the check code has the recorded length
@@ -192,8 +193,8 @@ messages_left m = messages_of m.rest.now
 -- ---- reading: from bytes to the value, or the first fault
 
 -- the number of n bytes at an offset
-abbrev pub number_at : ℕ → ℕ → List ℕ → ℕ
-number_at n at bytes = little_number n (drop at bytes)
+abbrev pub little_at : ℕ → ℕ → List ℕ → ℕ
+little_at n at bytes = little_number n (drop at bytes)
 
 -- where the check code begins
 abbrev pub check_at : Parameters → List ℕ → ℕ
@@ -205,7 +206,7 @@ code_at p bytes = check_at p bytes - p.code_length
 
 -- the length field of the redundancy layer is the number of bytes
 abbrev pub has_length : List ℕ → Bool
-has_length bytes = nat_le 2 (length bytes) && number_at 2 0 bytes == length bytes
+has_length bytes = nat_le 2 (length bytes) && little_at 2 0 bytes == length bytes
 
 -- there is room for the fields and both codes
 abbrev pub has_fields : Parameters → List ℕ → Bool
@@ -213,39 +214,40 @@ has_fields p bytes = nat_le (36 + p.code_length + p.check_length) (length bytes)
 
 -- the safety PDU reaches from its length field to the check code
 abbrev pub has_safety_length : Parameters → List ℕ → Bool
-has_safety_length p bytes = number_at 2 8 bytes == check_at p bytes - 8
+has_safety_length p bytes = little_at 2 8 bytes == check_at p bytes - 8
 
 -- the body of this layout that a payload spells
 abbrev pub body_in : Layout → List ℕ → Option SafetyBody
 body_in OpeningFields payload =
     if length payload == 14 && is_version (take 4 payload)
-    then Some (Opening (take 4 payload) (number_at 2 4 payload) (drop 6 payload)) else None
+    then Some (Opening (take 4 payload) (little_at 2 4 payload) (drop 6 payload)) else None
 body_in ByeFields payload =
-    if length payload == 4 then Some (Bye (number_at 2 0 payload) (number_at 2 2 payload)) else None
+    if length payload == 4 then Some (Bye (little_at 2 0 payload) (little_at 2 2 payload)) else None
 body_in MessageList payload = if are_messages payload then Some (Messages payload) else None
 body_in Nothing payload = if length payload == 0 then Some Empty else None
 
 -- the safety code is that of the bytes from the safety PDU's length field to the payload's end
 abbrev pub has_code : Parameters → List ℕ → Bool
 has_code p bytes =
-    bytes_eq (code_over p (slice_range bytes 8 (code_at p bytes))) (slice_range bytes (code_at p bytes) (check_at p bytes))
+    bytes_eq (code_over p (slice_range bytes 8 (code_at p bytes)))
+      (slice_range bytes (code_at p bytes) (check_at p bytes))
 
 -- receiver and sender are the recorded ones
 abbrev pub has_ids : Parameters → Side → List ℕ → Bool
-has_ids p side bytes = number_at 4 12 bytes == receiver_of p side && number_at 4 16 bytes == sender_of p side
+has_ids p side bytes = little_at 4 12 bytes == receiver_of p side && little_at 4 16 bytes == sender_of p side
 
 -- what stands in a datagram of this kind and body whose check code begins there, each field at its
 -- offset
-abbrev pub fields_of : Kind → SafetyBody → ℕ → List ℕ → RedundancyPdu
-fields_of kind body check bytes = record {
-  reserve = number_at 2 2 bytes;
-  number = number_at 4 4 bytes;
+abbrev pub pdu_with_body : Kind → SafetyBody → ℕ → List ℕ → RedundancyPdu
+pdu_with_body kind body check bytes = record {
+  reserve = little_at 2 2 bytes;
+  number = little_at 4 4 bytes;
   safety = record {
     kind = kind;
-    sn = number_at 4 20 bytes;
-    cs = number_at 4 24 bytes;
-    ts = number_at 4 28 bytes;
-    cts = number_at 4 32 bytes;
+    sn = little_at 4 20 bytes;
+    cs = little_at 4 24 bytes;
+    ts = little_at 4 28 bytes;
+    cts = little_at 4 32 bytes;
     body = body;
   };
   check_bytes = drop check bytes;
@@ -258,7 +260,7 @@ abbrev pub decode_body : Parameters → Side → List ℕ → Kind → Option Sa
 decode_body p side bytes kind None = refused wrong_payload
 decode_body p side bytes kind (Some body) =
     if has_code p bytes then
-    (if has_ids p side bytes then Ok (fields_of kind body (check_at p bytes) bytes) else refused wrong_ids)
+    (if has_ids p side bytes then Ok (pdu_with_body kind body (check_at p bytes) bytes) else refused wrong_ids)
     else refused wrong_code
 
 abbrev pub decode_kind : Parameters → Side → List ℕ → Option Kind → Result RedundancyPdu Fault
@@ -271,7 +273,7 @@ unfoldable pub decode_of : Parameters → Side → List ℕ → Result Redundanc
 decode_of p side bytes =
     if has_length bytes then
     (if has_fields p bytes then
-    (if has_safety_length p bytes then decode_kind p side bytes (kind_of (number_at 2 10 bytes))
+    (if has_safety_length p bytes then decode_kind p side bytes (kind_of (little_at 2 10 bytes))
     else refused safety_length)
     else refused too_short)
     else refused redundancy_length
@@ -280,14 +282,15 @@ decode_of p side bytes =
 
 -- the body of this layout that stands in a payload, which is judged elsewhere
 abbrev pub body_at : Layout → List ℕ → SafetyBody
-body_at OpeningFields payload = Opening (take 4 payload) (number_at 2 4 payload) (drop 6 payload)
-body_at ByeFields payload = Bye (number_at 2 0 payload) (number_at 2 2 payload)
+body_at OpeningFields payload = Opening (take 4 payload) (little_at 2 4 payload) (drop 6 payload)
+body_at ByeFields payload = Bye (little_at 2 0 payload) (little_at 2 2 payload)
 body_at MessageList payload = Messages payload
 body_at Nothing payload = Empty
 
 -- the value of a PDU: what stands in its datagram, each field at its offset
 unfoldable pub value_of : Pdu → RedundancyPdu
-value_of d = fields_of d.kind (body_at (layout_of d.kind) (slice_range d.bytes.now 36 d.code_at)) d.check_at d.bytes.now
+value_of d =
+    pdu_with_body d.kind (body_at (layout_of d.kind) (slice_range d.bytes.now 36 d.code_at)) d.check_at d.bytes.now
 
 -- the safety code of a PDU: what stands between its payload and its check code
 unfoldable pub read_code : Pdu → List ℕ
@@ -295,4 +298,5 @@ read_code d = slice_range d.bytes.now d.code_at d.check_at
 
 -- the numbers of a value, with that of its type
 abbrev pub numbers_of : RedundancyPdu → List ℕ
-numbers_of r = type_of r.safety.kind ∷ r.reserve ∷ r.number ∷ r.safety.sn ∷ r.safety.cs ∷ r.safety.ts ∷ r.safety.cts ∷ []
+numbers_of r =
+    type_of r.safety.kind ∷ r.reserve ∷ r.number ∷ r.safety.sn ∷ r.safety.cs ∷ r.safety.ts ∷ r.safety.cts ∷ []

@@ -3,7 +3,7 @@ ghost use Rattle.std.specs.Prelude.{true, ◌≡◌, ◌≤◌, ◌+◌, ◌-◌
 ghost use Rattle.rasta_udp.specs.Fault.{fault_at};
 ghost use Rattle.rasta_pdu.specs.Params.{AreParameters};
 ghost use Rattle.rasta_pdu.specs.Lengths.{has_payload_length};
-ghost use Rattle.rasta_pdu.specs.Pdu.{RedundancyPdu, IsRedundancyPdu, redundancy_bytes, decode_of, receiver_of, sender_of, value_of, body_at, layout_of, read_code, code_of, fields_of, has_length, has_fields, has_safety_length, has_code, code_at, check_at, number_at};
+ghost use Rattle.rasta_pdu.specs.Pdu.{RedundancyPdu, IsRedundancyPdu, redundancy_bytes, decode_of, receiver_of, sender_of, value_of, body_at, layout_of, read_code, code_of, pdu_with_body, has_length, has_fields, has_safety_length, has_code, code_at, check_at, little_at};
 
 use crate::body::has_body;
 use crate::bytes::{u16_at, u32_at};
@@ -70,7 +70,7 @@ fn has_code(params: &Params, bytes: &[u8]) -> bool
 
 fn has_id(bytes: &[u8], at: usize, id: u32) -> bool
     requires { at + 4 ≤ length bytes.now }
-    ensures { result ≡ (number_at 4 at bytes.now == id) }
+    ensures { result ≡ (little_at 4 at bytes.now == id) }
 {
     u32_at(bytes, at) == id
 }
@@ -78,7 +78,7 @@ fn has_id(bytes: &[u8], at: usize, id: u32) -> bool
 // Whether these are the receiver and the sender.
 fn are_ids(bytes: &[u8], receiver: u32, sender: u32) -> bool
     requires { 36 ≤ length bytes.now }
-    ensures { result ≡ (number_at 4 12 bytes.now == receiver && number_at 4 16 bytes.now == sender) }
+    ensures { result ≡ (little_at 4 12 bytes.now == receiver && little_at 4 16 bytes.now == sender) }
 {
     has_id(bytes, RECEIVER_AT, receiver) && has_id(bytes, SENDER_AT, sender)
 }
@@ -92,7 +92,7 @@ fn view<'a>(kind: Kind, bytes: &'a [u8], code_at: usize, check_at: usize) -> Pdu
     requires code { code_at ≤ check_at }
     requires check { check_at ≤ length bytes.now }
     requires short { check_at < 2 ^ 16 }
-    ensures value { value_of result ≡ fields_of kind (body_at (layout_of kind) (slice_range bytes.now 36 code_at)) check_at bytes.now }
+    ensures value { value_of result ≡ pdu_with_body kind (body_at (layout_of kind) (slice_range bytes.now 36 code_at)) check_at bytes.now }
     ensures code { read_code result ≡ slice_range bytes.now code_at check_at }
 {
     Pdu {

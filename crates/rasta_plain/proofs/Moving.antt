@@ -24,8 +24,8 @@ use Rattle.rasta_plain.specs.declared.world.Move.TheVariants.{Make, Repeat, Arri
 use Rattle.rasta_plain.specs.declared.world.PlainStation.TheInside.{Inside}
 use Rattle.rasta_end.specs.Judged.{JudgedEnd}
 use Rattle.rasta_end.proofs.MakeTests.{no_fault, no_test}
-use Rattle.rasta_check.specs.Capture.Crossing.{Spells}
-use Rattle.rasta_check.specs.Capture.Crossing.{IsRecorded}
+use Rattle.rasta_check.specs.Capture.SentLists.{Spells}
+use Rattle.rasta_check.specs.Capture.SentLists.{IsRecorded}
 use Rattle.rasta_check.specs.Model.World.{Station, World, Move as Label, making, repeating, arriving, taking, waiting, Moves, makes, repeats, arrives, takes, waits, Step, station_of, other_side, moved, side_moves}
 use Rattle.rasta_plain.specs.Moving.{IsMove, Answers, JudgedStation, judged_station, IsPlainStation}
 use Rattle.rasta_check.proofs.Model.TakeRows.{accepted_after, take_leaves}
@@ -68,34 +68,34 @@ arrive_made p b a position low m get xs = (arriving position, arrives position l
 
 -- the PDU of the peer at a position that arrived
 pub takeable_there : (p : Parameters) (peer a : Station) (position : ℕ) (r : Option Pdu)
-    → peer.state.base ≡ a.state.base → Contains a.arrived position → a.taken ≤ position → a.state.base ≤ position → take_fault p a.state a.clock ≡ None
+    → peer.state.base ≡ a.state.base → Contains a.arrived position → a.mark ≤ position → a.state.base ≤ position → take_fault p a.state a.clock ≡ None
     → MatchOption r (peer.state.base ≤ position → position < length peer.state.made → ⊥)
     (λ d. (peer.state.base ≤ position) × ((m : Made) × (slice_get peer.state.made position ≡ Some m) × (m.pdu ≡ (value_of d).safety)))
     → MatchOption r
-    ((m : Made) → Contains a.arrived position → a.taken ≤ position → slice_get peer.state.made position ≡ Some m → take_fault p a.state a.clock ≡ None → ⊥)
-    (λ d. Contains a.arrived position × (a.taken ≤ position)
+    ((m : Made) → Contains a.arrived position → a.mark ≤ position → slice_get peer.state.made position ≡ Some m → take_fault p a.state a.clock ≡ None → ⊥)
+    (λ d. Contains a.arrived position × (a.mark ≤ position)
     × ((m : Made) × (slice_get peer.state.made position ≡ Some m) × (m.pdu ≡ (value_of d).safety))
     × (take_fault p a.state a.clock ≡ None))
 takeable_there p peer a position None same there above low calm none = λ m i l get t. none (let P : ℕ → Type 0 = λ n. n ≤ position in subst P (sym same) low) (slice_get_within peer.state.made position m get)
 takeable_there p peer a position (Some d) same there above low calm found = (there, above, found.1, calm)
 
 take_needs : (p : Parameters) (b : Station) (xs : List Packet) (a a' : Station) (ys : List Packet) {label : Label} (m : Moves p b xs a label a' ys) (position : ℕ) → IsMove p b xs a a' ys m (Take position)
-    → (n : Made) × Contains a.arrived position × (a.taken ≤ position) × (slice_get b.state.made position ≡ Some n) × (take_fault p a.state a.clock ≡ None)
+    → (n : Made) × Contains a.arrived position × (a.mark ≤ position) × (slice_get b.state.made position ≡ Some n) × (take_fault p a.state a.clock ≡ None)
 take_needs p b xs a a' ys (makes x why e channel reserve check bytes mk sp rec) position is = absurd is
 take_needs p b xs a a' ys (repeats place channel old there side rec) position is = absurd is
 take_needs p b xs a a' ys (arrives at low within) position is = absurd is
 take_needs p b xs a a' ys (takes at n e there above get tk) position is =
-    subst (λ (q : ℕ). (n : Made) × Contains a.arrived q × (a.taken ≤ q) × (slice_get b.state.made q ≡ Some n) × (take_fault p a.state a.clock ≡ None)) (sym is) (n, there, above, get, tk.0)
+    subst (λ (q : ℕ). (n : Made) × Contains a.arrived q × (a.mark ≤ q) × (slice_get b.state.made q ≡ Some n) × (take_fault p a.state a.clock ≡ None)) (sym is) (n, there, above, get, tk.0)
 take_needs p b xs a a' ys (waits until rises) position is = absurd is
 
 pub take_refused : (p : Parameters) (b a : Station) (position : ℕ)
-    → ((m : Made) → Contains a.arrived position → a.taken ≤ position → slice_get b.state.made position ≡ Some m → take_fault p a.state a.clock ≡ None → ⊥)
+    → ((m : Made) → Contains a.arrived position → a.mark ≤ position → slice_get b.state.made position ≡ Some m → take_fault p a.state a.clock ≡ None → ⊥)
     → (xs : List Packet) → Answers p b xs a (Take position) false a xs
 take_refused p b a position none xs = (refl, refl, λ c ys label m is. let n = take_needs p b xs a c ys m position is in none n.0 n.1 n.2 n.3 n.4)
 
-pub take_made : (p : Parameters) (b a : Station) (position : ℕ) (m : Made) → Contains a.arrived position → a.taken ≤ position → slice_get b.state.made position ≡ Some m
+pub take_made : (p : Parameters) (b a : Station) (position : ℕ) (m : Made) → Contains a.arrived position → a.mark ≤ position → slice_get b.state.made position ≡ Some m
     → take_fault p a.state a.clock ≡ None
-    → (xs : List Packet) → Answers p b xs a (Take position) true (record a { state = after_take p a.state m.pdu; taken = suc position }) xs
+    → (xs : List Packet) → Answers p b xs a (Take position) true (record a { state = after_take p a.state m.pdu; mark = suc position }) xs
 take_made p b a position m there above get calm xs = (taking position, takes position m (after_take p a.state m.pdu) there above get (calm, refl), refl)
 
 -- ---- repeats
@@ -182,7 +182,7 @@ memory_has_no_end fault some is = absurd (let e : false ≡ true = sym (ap (λ (
 
 module _ (s : Inside) (e : JudgedEnd) (x : SafetyPdu) (position n : ℕ) (kept : IsPlainStation s)
     (is : e ≡ record { params = s.end.params; state = after_take s.end.params s.end.state x }) (next_is : n ≡ suc position) where
-  pub kept_take : s.taken ≤ position → IsPlainStation (record s { end = e; taken = n })
+  pub kept_take : s.mark ≤ position → IsPlainStation (record s { end = e; mark = n })
   kept_take above =
       let alone = take_leaves s.end.params s.end.state x in
       let most = accepted_after s.end.params s.end.state x in
@@ -198,22 +198,22 @@ module _ (s : Inside) (e : JudgedEnd) (x : SafetyPdu) (position n : ℕ) (kept :
       }
 
   pub took : (v : JudgedStation) (b : Station) → judged_station s ≡ v
-      → Contains v.station.arrived position × (v.station.taken ≤ position)
+      → Contains v.station.arrived position × (v.station.mark ≤ position)
       × ((m : Made) × (slice_get b.state.made position ≡ Some m) × (m.pdu ≡ x))
       × (take_fault v.params v.station.state v.station.clock ≡ None)
       → (xs : List Packet)
-      → Answers v.params b xs v.station (Take position) true (record { state = e.state; clock = s.clock; arrived = s.arrived.items; taken = n; first_number = s.first_number }) xs
+      → Answers v.params b xs v.station (Take position) true (record { state = e.state; clock = s.clock; arrived = s.arrived.items; mark = n; first_number = s.first_number }) xs
   took v b view may xs =
       let P : JudgedStation → Type 0 = λ (w : JudgedStation).
-      Contains w.station.arrived position × (w.station.taken ≤ position)
+      Contains w.station.arrived position × (w.station.mark ≤ position)
       × ((m : Made) × (slice_get b.state.made position ≡ Some m) × (m.pdu ≡ x)) × (take_fault w.params w.station.state w.station.clock ≡ None) in
       let here = subst P (sym view) may in
       let m = here.2.0 in
       let state : e.state ≡ after_take s.params s.end.state m.pdu =
       ap (λ (f : JudgedEnd). f.state) is ∙ (ap (λ (p : Parameters). after_take p s.end.state x) kept.params ∙ ap (after_take s.params s.end.state) (sym here.2.2)) in
-      subst (λ (w : JudgedStation). Answers w.params b xs w.station (Take position) true (record { state = e.state; clock = s.clock; arrived = s.arrived.items; taken = n; first_number = s.first_number }) xs) view
+      subst (λ (w : JudgedStation). Answers w.params b xs w.station (Take position) true (record { state = e.state; clock = s.clock; arrived = s.arrived.items; mark = n; first_number = s.first_number }) xs) view
       (subst (λ (c : Station). Answers s.params b xs (judged_station s).station (Take position) true c xs)
-      (λ i. record { state = sym state i; clock = s.clock; arrived = s.arrived.items; taken = sym next_is i; first_number = s.first_number })
+      (λ i. record { state = sym state i; clock = s.clock; arrived = s.arrived.items; mark = sym next_is i; first_number = s.first_number })
       (take_made s.params b (judged_station s).station position m here.0 here.1 here.2.1 here.3 xs))
 
 -- ---- packets
@@ -257,7 +257,7 @@ module _ (s : Inside) (v : JudgedStation) (b : Station) (e : JudgedEnd) (channel
   pub not_made : (items all : List Datagram) (fault : Fault) → all ≡ items → e ≡ s.end → IsMakeRefusal s.end.params s.end.state d.safety s.clock why fault → is_some fault.end ≡ true
       → ((r : RedundancyPdu) → Spells v.params v.station.state.side r payload.now → d ≡ r)
       → Answers v.params b (map packet_of items) v.station (Make channel payload why) false
-      (record { state = e.state; clock = s.clock; arrived = s.arrived.items; taken = s.taken; first_number = s.first_number }) (map packet_of all)
+      (record { state = e.state; clock = s.clock; arrived = s.arrived.items; mark = s.mark; first_number = s.first_number }) (map packet_of all)
   not_made items all fault same kept_end refused some one =
       let faulty : (number : ℕ) × (make_fault s.end.params s.end.state d.safety s.clock why ≡ Some number) = ⊎_elim
       (λ (w : (number : ℕ) × (make_fault s.end.params s.end.state d.safety s.clock why ≡ Some number) × (fault ≡ fault_of_end number 0 s.end.state.side)). (w.0, w.1))
@@ -269,7 +269,7 @@ module _ (s : Inside) (v : JudgedStation) (b : Station) (e : JudgedEnd) (channel
       (ap (λ (p : Parameters). make_fault p s.end.state d.safety s.clock why) kept.params
       ∙ (ap (λ (q : RedundancyPdu). make_fault s.params s.end.state q.safety s.clock why) (one r sp)
       ∙ subst (λ (w : JudgedStation). make_fault w.params w.station.state r.safety w.station.clock why ≡ None) (sym view) calm)) in (
-        (λ i. record { state = (kept_end i).state; clock = s.clock; arrived = s.arrived.items; taken = s.taken; first_number = s.first_number }) ∙ ap (λ (w : JudgedStation). w.station) view,
+        (λ i. record { state = (kept_end i).state; clock = s.clock; arrived = s.arrived.items; mark = s.mark; first_number = s.first_number }) ∙ ap (λ (w : JudgedStation). w.station) view,
         ap (map packet_of) same,
         (make_refused v.params b v.station (map packet_of items) channel payload why none).2,
       )
@@ -280,7 +280,7 @@ module _ (s : Inside) (v : JudgedStation) (b : Station) (e : JudgedEnd) (channel
       → Spells v.params v.station.state.side d payload.now → d.number ≡ next v.station → IsRecorded v.params channel
       → all ≡ items ++ record { channel = channel; side = s.side; payload = payload } ∷ []
       → Answers v.params b (map packet_of items) v.station (Make channel payload why) true
-      (record { state = e.state; clock = s.clock; arrived = s.arrived.items; taken = s.taken; first_number = s.first_number }) (map packet_of all)
+      (record { state = e.state; clock = s.clock; arrived = s.arrived.items; mark = s.mark; first_number = s.first_number }) (map packet_of all)
   made items all calm is sp number rec pushed =
       let datagram : Datagram = record { channel = channel; side = s.side; payload = payload } in
       let crossed : map packet_of all ≡ map packet_of items ++ record { channel = channel; side = s.end.state.side; payload = payload.now } ∷ [] =
@@ -288,11 +288,11 @@ module _ (s : Inside) (v : JudgedStation) (b : Station) (e : JudgedEnd) (channel
       let P : JudgedStation → Type 0 = λ (w : JudgedStation). Spells w.params w.station.state.side d payload.now × (d.number ≡ next w.station) × IsRecorded w.params channel in
       let here = subst P (sym view) (sp, number, rec) in
       subst (λ (w : JudgedStation). Answers w.params b (map packet_of items) w.station (Make channel payload why) true
-      (record { state = e.state; clock = s.clock; arrived = s.arrived.items; taken = s.taken; first_number = s.first_number }) (map packet_of all)) view
+      (record { state = e.state; clock = s.clock; arrived = s.arrived.items; mark = s.mark; first_number = s.first_number }) (map packet_of all)) view
       (subst (λ (ys : List Packet). Answers s.params b (map packet_of items) (judged_station s).station (Make channel payload why) true
-      (record { state = e.state; clock = s.clock; arrived = s.arrived.items; taken = s.taken; first_number = s.first_number }) ys) (sym crossed)
+      (record { state = e.state; clock = s.clock; arrived = s.arrived.items; mark = s.mark; first_number = s.first_number }) ys) (sym crossed)
       (subst (λ (f : JudgedEnd). Answers s.params b (map packet_of items) (judged_station s).station (Make channel payload why) true
-      (record { state = f.state; clock = s.clock; arrived = s.arrived.items; taken = s.taken; first_number = s.first_number })
+      (record { state = f.state; clock = s.clock; arrived = s.arrived.items; mark = s.mark; first_number = s.first_number })
       (map packet_of items ++ record { channel = channel; side = s.end.state.side; payload = payload.now } ∷ [])) (sym is)
       (make_made s.params b (judged_station s).station (map packet_of items) channel payload why d here.0 here.1 here.2
       (ap (λ (p : Parameters). make_fault p s.end.state d.safety s.clock why) (sym kept.params) ∙ calm))))

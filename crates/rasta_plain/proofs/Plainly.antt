@@ -16,7 +16,7 @@ use Rattle.rasta_end.specs.Starts.{start_of, quiet_pdu}
 use Rattle.rasta_end.specs.Units.{Conveyed, convey, units_after, units_at, last_of, responses_after}
 use Rattle.rasta_plain.specs.declared.taken.FirstCopy.{FirstCopy as PlainCopy}
 use Rattle.rasta_plain.specs.declared.taken.MadePdu.{MadePdu}
-use Rattle.rasta_check.specs.Capture.Crossing.{FirstCopy}
+use Rattle.rasta_check.specs.Capture.SentLists.{FirstCopy}
 use Rattle.rasta_check.specs.Model.Taken.{pdus_made, position_with, units_along, units_shown, units_taken, pdus_of, proof_place, units_from, TakenUnit, data_copies}
 use Rattle.rasta_plain.specs.Plain.{copy_of, copies_of, pdus, AreAtMost}
 

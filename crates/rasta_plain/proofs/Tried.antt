@@ -21,11 +21,12 @@ use Rattle.rasta_end.specs.MakeRule.{make_fault, after_make}
 use Rattle.rasta_end.specs.TakeRule.{after_take}
 use Rattle.rasta_end.specs.Starts.{start_of}
 use Rattle.rasta_end.proofs.MakeTests.{no_fault, no_test}
-use Rattle.rasta_check.specs.Capture.Crossing.{FirstCopy, Spells, Sent, CrossRecorded, packet_fault}
+use Rattle.rasta_check.specs.Capture.SentLists.{FirstCopy, Spells, Sent, CrossRecorded}
+use Rattle.rasta_check.specs.Capture.PacketFaults.{packet_fault}
 use Rattle.rasta_check.specs.Model.World.{World, Reaches}
 use Rattle.rasta_check.specs.Model.Taken.{TakenUnit, pdus_made, all_made, surely_taken}
 use Rattle.rasta_check.specs.Script.Fitting.{Fits, FirstFault, at_entry, after_last}
-use Rattle.rasta_check.specs.Script.Following.{Cursor, Advances, takes_next, makes_next, Leads, at_start}
+use Rattle.rasta_check.specs.Script.Following.{ScriptCursor, Advances, takes_next, makes_next, Leads, at_start}
 use Rattle.rasta_check.specs.Model.Theorem.{OfConnection, SentLists, Definite, Necessity, Appends, HasHandedUp, units_handed, units_listed}
 use Rattle.rasta_check.specs.Run.Moves.{Happened, Runs}
 use Rattle.rasta_check.specs.Run.Lines.{took, made, brought, waited, told}
@@ -200,7 +201,7 @@ pub client_fits : Fits connection Client 2 from_client from_server client_script
 client_fits = record {
   makes = refl;
   slots = (omega arith, tt);
-  taken = [];
+  positions = [];
   takes = tt;
   ends = (client_end, (no_test connection (start_of connection Client) offered.pdu.safety 1020 Fresh refl, refl), refl);
 }
@@ -209,7 +210,7 @@ pub server_fits : Fits connection Server 2 from_server from_client server_script
 server_fits = record {
   makes = refl;
   slots = (omega arith, omega arith, (omega arith, tt));
-  taken = 0 ∷ [];
+  positions = 0 ∷ [];
   takes = (omega arith, refl, (offered, refl, omega arith), tt);
   ends = (offered, server_taken, refl, (refl, refl), (server_end, (no_test connection server_taken beaten.pdu.safety 9050 Beat refl, refl), refl));
 }
@@ -217,7 +218,7 @@ server_fits = record {
 -- ---- the first fault of others
 
 nothing_fits : Fits connection Client 2 [] from_server [] (start_of connection Client)
-nothing_fits = record { makes = refl; slots = tt; taken = []; takes = tt; ends = refl }
+nothing_fits = record { makes = refl; slots = tt; positions = []; takes = tt; ends = refl }
 
 -- at another clock the data has not its time stamp
 pub late_clock : FirstFault connection Client 2 from_client from_server (Make 0 1021 Fresh ∷ []) (fault_of_end clock_differs 1 Client)
@@ -255,11 +256,11 @@ server_crossed w e = subst (λ (ks : List Packet). Sent connection ks Server fro
 pub tried_sent_lists : SentLists connection → (ws : List World) (w : World) → Reaches connection ws w → w.crossed ≡ packets
     → (pdus_made w.client.state.made ≡ all_made connection Client from_client) × (pdus_made w.server.state.made ≡ all_made connection Server from_server)
 tried_sent_lists law ws w r e =
-    let within = law.2 ws w from_client from_server r (client_crossed w e) (server_crossed w e) (omega arith) (omega arith) in
-    let c = law.0 ws w Client r within in
-    let s = law.0 ws w Server r within in
-    let same_c = law.3 w.crossed Client from_client c.0 (client_crossed w e) c.1.list (omega arith) in
-    let same_s = law.3 w.crossed Server from_server s.0 (server_crossed w e) s.1.list (omega arith) in
+    let within = law.within ws w from_client from_server r (client_crossed w e) (server_crossed w e) (omega arith) (omega arith) in
+    let c = law.made ws w Client r within in
+    let s = law.made ws w Server r within in
+    let same_c = law.one_list w.crossed Client from_client c.0 (client_crossed w e) c.1.list (omega arith) in
+    let same_s = law.one_list w.crossed Server from_server s.0 (server_crossed w e) s.1.list (omega arith) in
     (c.1.made ∙ sym (ap (all_made connection Client) same_c), s.1.made ∙ sym (ap (all_made connection Server) same_s))
 
 both_true : (a b : Bool) → a && b ≡ true → (a ≡ true) × (b ≡ true)
@@ -272,11 +273,11 @@ all_bytes (x ∷ xs) h (suc i) = all_bytes xs (both_true (nat_lt x 256) (list_al
 
 -- the heartbeat has no fault
 pub tried_definite : Definite connection → (ws : List World) (w : World) → Reaches connection ws w → w.crossed ≡ packets → packet_fault connection [] second ≡ None
-tried_definite law ws w r e = law.0 ws w (first ∷ []) [] second [] r e nothing_sent (omega arith)
+tried_definite law ws w r e = law.in_runs ws w (first ∷ []) [] second [] r e nothing_sent (omega arith)
 
 -- so after the data the server's sent list goes on
 pub tried_goes_on : Definite connection → packet_fault connection [] second ≡ None → (more : List FirstCopy) × Sent connection packets Server more
-tried_goes_on law none = (law.1 (first ∷ []) second [] (record { fits = all_bytes beat_bytes refl }) nothing_sent (omega arith)).0 none
+tried_goes_on law none = law.goes_on (first ∷ []) second [] (record { fits = all_bytes beat_bytes refl }) nothing_sent (omega arith) none
 
 -- the scripts tell a run that sends the packets, in six lines: the data is made, arrives and is taken, and then the heartbeat is made
 pub tried_simulation : Simulation connection → (happened : List Happened) × (w : World) × Runs connection happened w × (w.crossed ≡ packets) × (w.client.state ≡ client_end) × (w.server.state ≡ server_end)
@@ -292,8 +293,8 @@ pub tried_necessity : Necessity connection → (ws : List World) (w : World) →
 tried_necessity law ws w r e =
     let n = law ws w Client from_client from_server r (client_crossed w e) (server_crossed w e) (omega arith) (omega arith) in
     let unit : TakenUnit = record { messages = content; data_place = 0; proof_place = 1 } in (
-      (n.1.0, n.1.1 ∙ ap (λ (us : List TakenUnit). units_listed us ++ n.1.0) listed),
-      λ v next at. n.2 0 unit v next (ap (λ (us : List TakenUnit). slice_get us 0) listed) at,
+      (n.first.0, n.first.1 ∙ ap (λ (us : List TakenUnit). units_listed us ++ n.first.0) listed),
+      λ v next at. n.in_time 0 unit v next (ap (λ (us : List TakenUnit). slice_get us 0) listed) at,
     )
 
 -- in some run that sends the packets, nothing else was handed up
@@ -313,16 +314,16 @@ tried_complete law ws w r e a b =
     law ws w from_client from_server r (client_crossed w e) (server_crossed w e) (omega (arith, few)) (omega arith) (omega arith) (omega (arith, c)) (omega (arith, s))
 
 -- the client's script leads to one end
-client_leads : (v : Cursor) × Leads connection 2 from_client from_server (at_start (start_of connection Client)) client_script v × (v.state ≡ client_end)
-client_leads = (let v : Cursor = record { level = 1; made = 1; taken = 0; state = client_end } in (v, (v, makes_next offered 1020 Fresh client_end (omega arith) refl (no_test connection (start_of connection Client) offered.pdu.safety 1020 Fresh refl, refl), refl), refl))
+client_leads : (v : ScriptCursor) × Leads connection 2 from_client from_server (at_start (start_of connection Client)) client_script v × (v.state ≡ client_end)
+client_leads = (let v : ScriptCursor = record { level = 1; made_count = 1; passed = 0; state = client_end } in (v, (v, makes_next offered 1020 Fresh client_end (omega arith) refl (no_test connection (start_of connection Client) offered.pdu.safety 1020 Fresh refl, refl), refl), refl))
 
-pub tried_once : Stuck connection → (v : Cursor) → Leads connection 2 from_client from_server (at_start (start_of connection Client)) client_script v → v.state ≡ client_end
-tried_once law v leads = ap (λ (u : Cursor). u.state) ((law packets Client from_client from_server server_sent (omega arith)).0 (at_start (start_of connection Client)) v client_leads.0 client_script leads client_leads.1) ∙ client_leads.2
+pub tried_once : Stuck connection → (v : ScriptCursor) → Leads connection 2 from_client from_server (at_start (start_of connection Client)) client_script v → v.state ≡ client_end
+tried_once law v leads = ap (λ (u : ScriptCursor). u.state) ((law packets Client from_client from_server server_sent (omega arith)).one (at_start (start_of connection Client)) v client_leads.0 client_script leads client_leads.1) ∙ client_leads.2
 
 some_none : (n : ℕ) → Some n ≡ None → ⊥
 some_none n e = (cc)
 
-not_late : (u w : Cursor) (x : Entry) → Advances connection 2 from_client from_server u x w → u.made ≡ 0 → u.state ≡ start_of connection Client → x ≡ Make 0 1021 Fresh → ⊥
+not_late : (u w : ScriptCursor) (x : Entry) → Advances connection 2 from_client from_server u x w → u.made_count ≡ 0 → u.state ≡ start_of connection Client → x ≡ Make 0 1021 Fresh → ⊥
 not_late u w x (takes_next slot position c after level within get above new tk) none start is = (cc)
 not_late u w x (makes_next c clock why after level get mk) none start is =
     let at : clock ≡ 1021 = cc in
@@ -333,5 +334,5 @@ not_late u w x (makes_next c clock why after level get mk) none start is =
 -- at another clock than the data's nothing can be made, and no script begins so
 pub tried_stuck : Stuck connection → (rest : List Entry) (e : EndState) → Fits connection Client 2 from_client from_server (Make 0 1021 Fresh ∷ rest) e → ⊥
 tried_stuck law rest e =
-    (law packets Client from_client from_server server_sent (omega arith)).1 [] rest (Make 0 1021 Fresh) (at_start (start_of connection Client)) e refl
+    (law packets Client from_client from_server server_sent (omega arith)).none [] rest (Make 0 1021 Fresh) (at_start (start_of connection Client)) e refl
     (λ w step. not_late (at_start (start_of connection Client)) w (Make 0 1021 Fresh) step refl refl refl)

@@ -8,19 +8,26 @@ use Rattle.rasta_plain.specs.declared.world.PlainStation.TheInside.{Inside}
 use Rattle.rasta_check.specs.Model.World.{Station, World, Move as Label, Moves, makes, repeats, arrives, takes, waits}
 
 -- what happened to the station is this move
-abbrev pub IsMove : (p : Parameters) (peer : Station) (crossed : List Packet) (a b : Station) (after : List Packet) {label : Label} → Moves p peer crossed a label b after → Move → Type 0
-IsMove p peer crossed a b after (makes x why e channel reserve check bytes mk sp rec) (Make on payload reason) = (on ≡ channel) × (payload.now ≡ bytes) × (reason ≡ why)
-IsMove p peer crossed a b after (repeats place channel old there side rec) (Repeat at on) = (at ≡ place) × (on ≡ channel)
+abbrev pub IsMove : (p : Parameters) (peer : Station) (crossed : List Packet) (a b : Station)
+    (after : List Packet) {label : Label} → Moves p peer crossed a label b after → Move → Type 0
+IsMove p peer crossed a b after (makes x why e channel reserve check bytes mk sp rec) (Make on payload reason) =
+    (on ≡ channel) × (payload.now ≡ bytes) × (reason ≡ why)
+IsMove p peer crossed a b after (repeats place channel old there side rec) (Repeat at on) = (at ≡ place)
+    × (on ≡ channel)
 IsMove p peer crossed a b after (arrives position low within) (Arrive at) = at ≡ position
 IsMove p peer crossed a b after (takes position m e there above get tk) (Take at) = at ≡ position
 IsMove p peer crossed a b after (waits clock rises) (Wait until) = until ≡ clock
 IsMove p peer crossed a b after _ _ = ⊥
 
--- true: the move was made, and led from here to there; false: it isn't allowed, wherever it might lead, and nothing happened
+-- true: the move was made, and led from here to there; false: it isn't allowed, wherever it might lead, and nothing
+-- happened
 abbrev pub Answers : Parameters → Station → List Packet → Station → Move → Bool → Station → List Packet → Type 0
-Answers p peer crossed a move true b after = (label : Label) × (m : Moves p peer crossed a label b after) × IsMove p peer crossed a b after m move
+Answers p peer crossed a move true b after = (label : Label) × (m : Moves p peer crossed a label b after)
+    × IsMove p peer crossed a b after m move
 Answers p peer crossed a move false b after =
-    (b ≡ a) × (after ≡ crossed) × ((c : Station) (later : List Packet) (label : Label) (m : Moves p peer crossed a label c later) → IsMove p peer crossed a c later m move → ⊥)
+    (b ≡ a) × (after ≡ crossed)
+    × ((c : Station) (later : List Packet) (label : Label) (m : Moves p peer crossed a label c later)
+    → IsMove p peer crossed a c later m move → ⊥)
 
 -- a take names a position below 2^31
 abbrev pub IsBelow : Move → Type 0
@@ -42,11 +49,17 @@ pub record JudgedWorld : Type 0 where
 abbrev pub judged_station : Inside → JudgedStation
 judged_station s = record {
   params = s.params;
-  station = record { state = s.end.state; clock = s.clock; arrived = s.arrived.items; taken = s.taken; first_number = s.first_number };
+  station = record {
+    state = s.end.state;
+    clock = s.clock;
+    arrived = s.arrived.items;
+    mark = s.mark;
+    first_number = s.first_number;
+  };
 }
 
--- the end is judged by the same parameters, and its last make doesn't lie ahead; what arrived was made since the start; and each take
--- raises the position that was accepted last by at most 2^32
+-- the end is judged by the same parameters, and its last make doesn't lie ahead; what arrived was made since the start;
+-- and each take raises the position that was accepted last by at most 2^32
 pub record IsPlainStation (s : Inside) : Type 0 where
   pub params : s.end.params ≡ s.params
   pub side : s.side ≡ s.end.state.side
@@ -54,4 +67,4 @@ pub record IsPlainStation (s : Inside) : Type 0 where
   pub small : s.base ≤ 1
   pub clock : s.end.state.clock ≤ s.clock
   pub arrived : (position : ℕ) → Contains s.arrived.items position → s.base ≤ position
-  pub accepted : s.end.state.accepted ≤ s.taken * 2 ^ 32
+  pub accepted : s.end.state.accepted ≤ s.mark * 2 ^ 32

@@ -4,7 +4,7 @@ use Rattle.rasta_pdu.specs.Pdu.{SafetyPdu, value_of, body_of, messages_in}
 use Rattle.rasta_plain.specs.declared.taken.FirstCopy.{FirstCopy as PlainCopy}
 use Rattle.rasta_plain.specs.declared.taken.MadePdu.{MadePdu}
 use Rattle.rasta_plain.specs.declared.taken.TakenUnit.{TakenUnit as PlainUnit}
-use Rattle.rasta_check.specs.Capture.Crossing.{FirstCopy}
+use Rattle.rasta_check.specs.Capture.SentLists.{FirstCopy}
 use Rattle.rasta_check.specs.Model.Taken.{TakenUnit}
 
 abbrev pub copy_of : PlainCopy → FirstCopy
@@ -20,7 +20,11 @@ abbrev pub pdus : List MadePdu → List SafetyPdu
 pdus made = map safety_of made
 
 abbrev pub unit_of : PlainUnit → TakenUnit
-unit_of u = record { messages = messages_in (value_of u.pdu).safety.body; data_place = u.data_place; proof_place = u.proof_place }
+unit_of u = record {
+  messages = messages_in (value_of u.pdu).safety.body;
+  data_place = u.data_place;
+  proof_place = u.proof_place;
+}
 
 abbrev pub units_of : List PlainUnit → List TakenUnit
 units_of units = map unit_of units

@@ -5,8 +5,8 @@ ghost use Rattle.rasta_pdu.specs.Pdu.{RedundancyPdu, value_of};
 ghost use Rattle.rasta_end.specs.State.{Made, wrapped};
 ghost use Rattle.rasta_end.specs.TakeRule.{take_fault};
 ghost use Rattle.rasta_end.specs.Starts.{start_of};
-ghost use Rattle.rasta_check.specs.Capture.Crossing.{Spells};
-ghost use Rattle.rasta_check.specs.Capture.Crossing.{IsRecorded};
+ghost use Rattle.rasta_check.specs.Capture.SentLists.{Spells};
+ghost use Rattle.rasta_check.specs.Capture.SentLists.{IsRecorded};
 ghost use Rattle.rasta_check.specs.Model.World.{Station, Step, first_station, first_world, other_side, station_of};
 ghost use Rattle.rasta_plain.specs.Moving.{Answers, IsBelow};
 
@@ -55,7 +55,7 @@ struct PlainStation<'a> {
     end: End<'a>,
     clock: u64,
     arrived: Vec<u32>,
-    taken: u64,
+    mark: u64,
     first_number: u32,
 }
 
@@ -101,7 +101,7 @@ impl<'a> PlainStation<'a> {
             end: End::start(alloc, params, side),
             clock: clock_at_start(params, side),
             arrived: Vec::new(alloc),
-            taken: u64::from(base),
+            mark: u64::from(base),
             first_number,
         }
     }
@@ -157,14 +157,14 @@ impl<'a> PlainStation<'a> {
     fn takeable(&self, peer: &PlainStation<'a>, position: u32) -> Option<Pdu<'a>>
         requires base { peer.now.station.state.base ≡ self.now.station.state.base }
         ensures { MatchOption result
-            ((m : Made) → Contains self.now.station.arrived position → self.now.station.taken ≤ position
+            ((m : Made) → Contains self.now.station.arrived position → self.now.station.mark ≤ position
             → slice_get peer.now.station.state.made position ≡ Some m
             → take_fault self.now.params self.now.station.state self.now.station.clock ≡ None → ⊥)
-            (λ d. Contains self.now.station.arrived position × (self.now.station.taken ≤ position)
+            (λ d. Contains self.now.station.arrived position × (self.now.station.mark ≤ position)
             × ((m : Made) × (slice_get peer.now.station.state.made position ≡ Some m) × (m.pdu ≡ (value_of d).safety))
             × (take_fault self.now.params self.now.station.state self.now.station.clock ≡ None)) }
     {
-        if !self.has_arrived(position) || u64::from(position) < self.taken {
+        if !self.has_arrived(position) || u64::from(position) < self.mark {
             return None;
         }
         match self.end.take_fault(self.clock) {
@@ -276,7 +276,7 @@ impl<'a> PlainStation<'a> {
             prove!(fault.end.is_none());
             return Err(AllocError);
         }
-        self.taken = u64::from(position) + 1;
+        self.mark = u64::from(position) + 1;
         Ok(true)
     }
 

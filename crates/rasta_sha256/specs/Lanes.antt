@@ -12,7 +12,8 @@ schedule_word bytes t n = slice_index (schedule (block_at bytes n) 48) t
 
 -- word t of the schedules of the four blocks of a group
 abbrev pub words_at : List ℕ → ℕ → List ℕ
-words_at group t = schedule_word group t 0 ∷ schedule_word group t 1 ∷ schedule_word group t 2 ∷ schedule_word group t 3 ∷ []
+words_at group t =
+    schedule_word group t 0 ∷ schedule_word group t 1 ∷ schedule_word group t 2 ∷ schedule_word group t 3 ∷ []
 
 -- the first n words of the schedules of a group
 pub record HoldsWords (group : List ℕ) (words : List (List ℕ)) (n : ℕ) : Type 0 where

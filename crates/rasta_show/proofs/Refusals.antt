@@ -4,7 +4,7 @@ use Rattle.std.proofs.lemmas.Bool.{leb-true, leb-false}
 use Rattle.std.specs.Io.KnownBytes.{Consumes}
 use Rattle.rasta_pcap.specs.declared.fault.Fault.{Fault}
 use Rattle.rasta_pcap.specs.declared.pcap.Endianness.{Endianness}
-use Rattle.rasta_pcap.specs.Capture.{Cursor, Numbered, next_bytes, cursor_at, next_length, max_captured, max_records, next, opening, opening_in, order_of}
+use Rattle.rasta_pcap.specs.Capture.{FileCursor, Numbered, next_bytes, cursor_at, next_length, max_captured, max_records, next, opening, opening_in, order_of}
 use Rattle.rasta_pcap.specs.Devices.{HasFailed}
 use Rattle.rasta_pcap.specs.Fault.{fault_at, cut_header, cut_record, no_memory, not_pcap, read_failed, record_too_long, too_many, wrong_link_type, wrong_version}
 use Rattle.rasta_pcap.specs.Stream.{FailsWithin, LacksMemory, RefusesHeader, RefusesRecord}
@@ -27,20 +27,20 @@ tested-number false false false true cut place r f h = number_of f record_too_lo
 tested-number false false false false true place r f h = number_of f cut_record place h (omega arith)
 tested-number false false false false false place r f h = absurd (cc)
 
-pub next-number : (c : Cursor) (f : Fault) → next c ≡ Err f → 10 ≤ f.number
+pub next-number : (c : FileCursor) (f : Fault) → next c ≡ Err f → 10 ≤ f.number
 next-number c f h =
     let size = length c.rest in
     let captured = next_length c in
     tested-number (nat_eq size 0) (nat_le max_records c.count) (nat_lt size 16) (nat_lt max_captured captured)
     (nat_lt size (16 + captured)) (c.count + 1) (c.count + 1, next_bytes c) f h
 
-abbrev unopened : Fault → Result Cursor Fault
+abbrev unopened : Fault → Result FileCursor Fault
 unopened f = Err f
 
 header_number_of : (f : Fault) (number : ℕ) → unopened (fault_at number 0) ≡ unopened f → 10 ≤ number → 10 ≤ f.number
 header_number_of f number h least = let e : fault_at number 0 ≡ f = cc in rw (← e) least
 
-judged-number : (version link : Bool) (c : Cursor) (f : Fault)
+judged-number : (version link : Bool) (c : FileCursor) (f : Fault)
     → cond version (cond link (Ok c) (Err (fault_at wrong_link_type 0))) (Err (fault_at wrong_version 0)) ≡ Err f → 10 ≤ f.number
 judged-number true true c f h = absurd (cc)
 judged-number true false c f h = header_number_of f wrong_link_type h (omega arith)

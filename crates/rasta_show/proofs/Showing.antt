@@ -5,7 +5,7 @@ use Rattle.rasta_pcap.specs.declared.pcap.Endianness.{Endianness}
 use Rattle.rasta_pcap.specs.Capture.{Numbered, Reading, cursor_at, reading, with_record}
 use Rattle.rasta_pcap.proofs.Steps.{reading-none_left}
 use Rattle.rasta_pdu.specs.Params.{Parameters}
-use Rattle.rasta_show.specs.Lines.{Packet, packet_line, packets_line, refused_line}
+use Rattle.rasta_show.specs.Lines.{ShownPacket, packet_line, packets_line, refused_line}
 use Rattle.rasta_show.specs.Show.{packet, sight_of, Shown, with_sight, shown_in, shown_of, lines_from, last_line, text_from}
 
 -- nothing is shown of nothing
@@ -32,7 +32,7 @@ pub shown-none_left : (p : Parameters) (order : Endianness) (rest : List ℕ) (c
 shown-none_left p order rest count = ap (shown_of p) (reading-none_left (cursor_at order rest count)) ∙ shown-nothing p
 
 -- a packet's line stands before the text of what follows
-pub text_from-packet : (place : ℕ) (q : Packet) (s : Shown)
+pub text_from-packet : (place : ℕ) (q : ShownPacket) (s : Shown)
     → text_from place (with_sight (packet q) s) ≡ packet_line place q ++ text_from (place + 1) s
 unfolding text_from lines_from
 text_from-packet place q s =

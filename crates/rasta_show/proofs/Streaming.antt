@@ -10,7 +10,7 @@ use Rattle.rasta_pcap.specs.Devices.{AppendsBeginning, Writes}
 use Rattle.rasta_pcap.specs.Stream.{MeetsEnd, Opens, ReadsJust, ReadsRecord, ReadsSo, RefusesHeader, RefusesRecord, count_in, order_in}
 use Rattle.rasta_pcap.proofs.Streams.{reading-ReadsRecord, reading-RefusesRecord, reading-at_end, reading_of-Opens, reading_of-RefusesHeader}
 use Rattle.rasta_pdu.specs.Params.{Parameters}
-use Rattle.rasta_show.specs.Lines.{Packet, packet_line}
+use Rattle.rasta_show.specs.Lines.{ShownPacket, packet_line}
 use Rattle.rasta_show.specs.Show.{Shown, Sight, packet, passed_over, refused, shown, shown_of, sight_of, status_after, text_from, with_sight}
 use Rattle.rasta_show.specs.Runs.{WritesBeginning, WritesText}
 use Rattle.rasta_show.specs.Shown.{shown_left}
@@ -62,7 +62,7 @@ Streams-passed whole rest next place oi mi fi oo fo h seen = record {
       ∙ ap (λ (s : Shown). status_after s.fault) (seen.each more);
 }
 
-pub Streams-packet : (whole rest next : List ℕ → Shown) (place : ℕ) (q : Packet) (oi mi fi oo mo fo : Option (List ℕ))
+pub Streams-packet : (whole rest next : List ℕ → Shown) (place : ℕ) (q : ShownPacket) (oi mi fi oo mo fo : Option (List ℕ))
     → Streams whole rest place oi mi oo mo → Sees rest (packet q) next mi fi → Appends mo fo (packet_line place q)
     → Streams whole next (place + 1) oi fi oo fo
 Streams-packet whole rest next place q oi mi fi oo mo fo h seen out =
@@ -120,7 +120,7 @@ Streams-ends_begun whole rest place s line oi mi fi oo mo fo h e is begun = reco
 }
 
 -- a packet's line begun
-pub Streams-packet_begun : (whole rest next : List ℕ → Shown) (place : ℕ) (q : Packet) (oi mi fi oo mo fo : Option (List ℕ))
+pub Streams-packet_begun : (whole rest next : List ℕ → Shown) (place : ℕ) (q : ShownPacket) (oi mi fi oo mo fo : Option (List ℕ))
     → Streams whole rest place oi mi oo mo → Sees rest (packet q) next mi fi → AppendsBeginning mo fo (packet_line place q)
     → WritesBeginning (text_by whole) oi fi oo fo
 Streams-packet_begun whole rest next place q oi mi fi oo mo fo h seen begun = record {

@@ -1,17 +1,18 @@
 -- What `show` writes of a capture.
-use Rattle.std.specs.Prelude.{ℕ, ◌+◌, List, [], ◌∷◌, ◌++◌, length, Option, Some, None, Result, Ok, Err, nat_lt, if◌then◌else◌}
+use Rattle.std.specs.Prelude.{ℕ, ◌+◌, List, [], ◌∷◌, ◌++◌, length, Option, Some, None, Result, Ok, Err, nat_lt}
+use Rattle.std.specs.Prelude.{if◌then◌else◌}
 use Rattle.rasta_pcap.specs.declared.fault.Fault.{Fault}
 use Rattle.rasta_pcap.specs.Fault.{fault_at, fault_of_end}
 use Rattle.rasta_pcap.specs.Capture.{Numbered, Reading, reading_of}
 use Rattle.rasta_udp.specs.Frame as udp
 use Rattle.rasta_pdu.specs.Params.{Parameters}
 use Rattle.rasta_pdu.specs.Pdu.{RedundancyPdu, code_of, decode_of}
-use Rattle.rasta_show.specs.Lines.{Packet, packet_line, packets_line, refused_line}
+use Rattle.rasta_show.specs.Lines.{ShownPacket, packet_line, packets_line, refused_line}
 
 -- what a record is: before the window or of no channel, a packet of the connection, or refused
 pub data Sight : Type 0 where
   passed_over : Sight
-  packet : Packet → Sight
+  packet : ShownPacket → Sight
   refused : Fault → Sight
 
 -- a PDU's fault speaks of its sender
@@ -38,7 +39,7 @@ sight_of p r = if nat_lt r.0 p.first_record then passed_over
 
 -- the packets up to the first fault, and that fault
 pub record Shown : Type 0 where
-  pub packets : List Packet
+  pub packets : List ShownPacket
   pub fault : Option Fault
 
 abbrev pub with_sight : Sight → Shown → Shown
@@ -59,7 +60,7 @@ abbrev pub shown : Parameters → List ℕ → Shown
 shown p file = shown_of p (reading_of p.last_record file)
 
 -- the lines of packets, of which the first stands at this place
-unfoldable pub lines_from : ℕ → List Packet → List ℕ
+unfoldable pub lines_from : ℕ → List ShownPacket → List ℕ
 lines_from place [] = []
 lines_from place (q ∷ qs) = packet_line place q ++ lines_from (place + 1) qs
 

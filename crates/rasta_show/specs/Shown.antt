@@ -5,13 +5,13 @@ use Rattle.rasta_pcap.specs.Capture.{cursor_at, reading}
 use Rattle.rasta_pcap.specs.Stream.{count_in, order_in}
 use Rattle.rasta_pdu.specs.Params.{Parameters}
 use Rattle.rasta_pdu.specs.Pdu.{messages_in, read_code, value_of}
-use Rattle.rasta_show.specs.Lines.{Packet, codes_line, front_words, words_before, messages_text}
+use Rattle.rasta_show.specs.Lines.{ShownPacket, codes_line, front_words, words_before, messages_text}
 use Rattle.rasta_show.specs.Show.{packet, passed_over, refused, Shown, Sight, shown_of, status_after, text_from}
-use Rattle.rasta_show.specs.declared.shown_packet.ShownPacket.{ShownPacket}
+use Rattle.rasta_show.specs.declared.shown_packet.ShownPacket.{ShownPacket as HeldPacket}
 use Rattle.rasta_show.specs.declared.show.Seen.{Seen}
 use Rattle.rasta_show.specs.declared.show.Seen.TheVariants as seen
 
-abbrev pub packet_of : ShownPacket → Packet
+abbrev pub packet_of : HeldPacket → ShownPacket
 packet_of q = record {
   record_number = q.«record»;
   channel = q.channel;
@@ -21,13 +21,14 @@ packet_of q = record {
 }
 
 -- what comes before the messages of a packet at its place
-abbrev pub data_front : ℕ → Packet → List ℕ
+abbrev pub data_front : ℕ → ShownPacket → List ℕ
 data_front place q = words_before (front_words place q) (words_before (codes "data" ∷ []) [])
 
 -- a packet with messages at its place
-abbrev pub data_line : ℕ → Packet → List ℕ
+abbrev pub data_line : ℕ → ShownPacket → List ℕ
 data_line place q = words_before (front_words place q)
-    (words_before (codes "data" ∷ messages_text (messages_in q.pdu.safety.body) ∷ []) (codes_line q.code q.pdu.check_bytes))
+    (words_before (codes "data" ∷ messages_text (messages_in q.pdu.safety.body)
+        ∷ []) (codes_line q.code q.pdu.check_bytes))
 
 -- what a record is
 abbrev pub sight_in : Seen → Sight

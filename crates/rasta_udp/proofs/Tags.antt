@@ -5,7 +5,7 @@ use Rattle.std.proofs.lemmas.List.{drop-drop, drop_at, take_rest, length-take-le
 use Rattle.byteorder.specs.Endian.{big_number}
 use Rattle.rasta_pcap.specs.declared.fault.Fault.{Fault}
 use Rattle.rasta_udp.specs.declared.channel.Channel.{Channel}
-use Rattle.rasta_udp.specs.Frame.{number_at, fields_of, header_length_of, without_tag, map_found, moved_on, packet_at, Fields, Found, found_by, untagged_of, is_tagged, datagram_of, packet_in}
+use Rattle.rasta_udp.specs.Frame.{big_at, fields_of, header_length_of, without_tag, map_found, moved_on, packet_at, Fields, Found, found_by, untagged_of, is_tagged, datagram_of, packet_in}
 
 module _ (f : List ℕ) (whole : 16 ≤ length f) where
   front : length (take 12 f) ≡ 12
@@ -22,8 +22,8 @@ module _ (f : List ℕ) (whole : 16 ≤ length f) where
       let e : 12 + (n - 12) ≡ n = omega arith in
       subst (λ m. drop m (without_tag f) ≡ drop m (drop 4 f)) e (drop-without_tag (n - 12))
 
-  number_after : (m n : ℕ) → 12 ≤ n → number_at m n (without_tag f) ≡ number_at m n (drop 4 f)
-  unfolding number_at
+  number_after : (m n : ℕ) → 12 ≤ n → big_at m n (without_tag f) ≡ big_at m n (drop 4 f)
+  unfolding big_at
   number_after m n h = ap (big_number m) (drop_after n h)
 
   byte_after : (n : ℕ) → 12 ≤ n → get_or (without_tag f) n 0 ≡ get_or (drop 4 f) n 0
@@ -40,15 +40,15 @@ module _ (f : List ℕ) (whole : 16 ≤ length f) where
       let size : length (without_tag f) ≡ length (drop 4 f) = length-without_tag in
       let first : get_or (without_tag f) 14 0 ≡ get_or (drop 4 f) 14 0 = byte_after 14 (omega arith) in
       let protocol : get_or (without_tag f) 23 0 ≡ get_or (drop 4 f) 23 0 = byte_after 23 (omega arith) in
-      let n12 : number_at 2 12 (without_tag f) ≡ number_at 2 12 (drop 4 f) = number_after 2 12 (omega arith) in
-      let n16 : number_at 2 16 (without_tag f) ≡ number_at 2 16 (drop 4 f) = number_after 2 16 (omega arith) in
-      let n20 : number_at 2 20 (without_tag f) ≡ number_at 2 20 (drop 4 f) = number_after 2 20 (omega arith) in
-      let n26 : number_at 4 26 (without_tag f) ≡ number_at 4 26 (drop 4 f) = number_after 4 26 (omega arith) in
-      let n30 : number_at 4 30 (without_tag f) ≡ number_at 4 30 (drop 4 f) = number_after 4 30 (omega arith) in
+      let n12 : big_at 2 12 (without_tag f) ≡ big_at 2 12 (drop 4 f) = number_after 2 12 (omega arith) in
+      let n16 : big_at 2 16 (without_tag f) ≡ big_at 2 16 (drop 4 f) = number_after 2 16 (omega arith) in
+      let n20 : big_at 2 20 (without_tag f) ≡ big_at 2 20 (drop 4 f) = number_after 2 20 (omega arith) in
+      let n26 : big_at 4 26 (without_tag f) ≡ big_at 4 26 (drop 4 f) = number_after 4 26 (omega arith) in
+      let n30 : big_at 4 30 (without_tag f) ≡ big_at 4 30 (drop 4 f) = number_after 4 30 (omega arith) in
       let h = header_length_of (without_tag f) in
-      let p14 : number_at 2 (14 + h) (without_tag f) ≡ number_at 2 (14 + h) (drop 4 f) = number_after 2 (14 + h) (omega arith) in
-      let p16 : number_at 2 (16 + h) (without_tag f) ≡ number_at 2 (16 + h) (drop 4 f) = number_after 2 (16 + h) (omega arith) in
-      let p18 : number_at 2 (18 + h) (without_tag f) ≡ number_at 2 (18 + h) (drop 4 f) = number_after 2 (18 + h) (omega arith) in
+      let p14 : big_at 2 (14 + h) (without_tag f) ≡ big_at 2 (14 + h) (drop 4 f) = number_after 2 (14 + h) (omega arith) in
+      let p16 : big_at 2 (16 + h) (without_tag f) ≡ big_at 2 (16 + h) (drop 4 f) = number_after 2 (16 + h) (omega arith) in
+      let p18 : big_at 2 (18 + h) (without_tag f) ≡ big_at 2 (18 + h) (drop 4 f) = number_after 2 (18 + h) (omega arith) in
       cc
 
   slice_after : (a b : ℕ) → slice_range f (a + 4) (b + 4) ≡ slice_range (drop 4 f) a b
@@ -67,7 +67,7 @@ module _ (f : List ℕ) (whole : 16 ≤ length f) where
   packet_moved (Err e) = refl
 
 -- what a tagged frame holds is read 4 bytes on
-pub packet_in_tagged : (channels : List Channel) (f : List ℕ) → 16 ≤ length f → number_at 2 12 f ≡ 0x8100 →
+pub packet_in_tagged : (channels : List Channel) (f : List ℕ) → 16 ≤ length f → big_at 2 12 f ≡ 0x8100 →
     packet_in channels f ≡ map_found (packet_at (take (length f - 4) (drop 4 f))) (untagged_of channels (take (length f - 4) (drop 4 f)))
 unfolding packet_in datagram_of
 packet_in_tagged channels f whole type_is =

@@ -1,6 +1,8 @@
 -- The datagram in a captured frame: Ethernet II with at most one tag of IEEE 802.1Q, IPv4 (RFC 791)
 -- and UDP (RFC 768).
-use Rattle.std.specs.Prelude.{ℕ, ◌+◌, ◌-◌, ◌*◌, ◌/◌, ◌%◌, List, [], ◌∷◌, ◌++◌, length, take, drop, Bool, not, ◌&&◌, ◌||◌, ◌==◌, nat_lt, nat_le, if◌then◌else◌, Option, Some, None, is_none, Result, Ok, Err, slice_index, slice_range}
+use Rattle.std.specs.Prelude.{ℕ, ◌+◌, ◌-◌, ◌*◌, ◌/◌, ◌%◌, List, [], ◌∷◌, ◌++◌, length, take, drop, Bool, not, ◌&&◌}
+use Rattle.std.specs.Prelude.{◌||◌, ◌==◌, nat_lt, nat_le, if◌then◌else◌, Option, Some, None, is_none, Result, Ok, Err}
+use Rattle.std.specs.Prelude.{slice_index, slice_range}
 use Rattle.std.specs.List.{list_any, find}
 use Rattle.std.specs.Option.{option_map}
 use Rattle.byteorder.specs.Endian.{big_number}
@@ -13,12 +15,12 @@ use Rattle.rasta_udp.specs.declared.channel.Endpoint.{Endpoint}
 use Rattle.rasta_udp.specs.declared.channel.Datagram.{Datagram}
 
 -- the number in the n bytes from this place on, the highest byte first
-unfoldable pub number_at : ℕ → ℕ → List ℕ → ℕ
-number_at n place bytes = big_number n (drop place bytes)
+unfoldable pub big_at : ℕ → ℕ → List ℕ → ℕ
+big_at n place bytes = big_number n (drop place bytes)
 
 -- an IPv4 address as one number of 32 bits
 abbrev pub address_of : Endpoint → ℕ
-address_of e = number_at 4 0 e.address
+address_of e = big_at 4 0 e.address
 
 -- what is read of a frame: how many bytes were captured, the type of Ethernet II, and fields under
 -- the names of RFC 791 and RFC 768, the header length in bytes
@@ -45,18 +47,18 @@ header_length_of frame = 4 * (slice_index frame 14 % 16)
 abbrev pub fields_of : List ℕ → Fields
 fields_of frame = record {
   captured = length frame;
-  ether_type = number_at 2 12 frame;
+  ether_type = big_at 2 12 frame;
   version = slice_index frame 14 / 16;
   header_length = header_length_of frame;
-  total_length = number_at 2 16 frame;
-  more_fragments = number_at 2 20 frame / 0x2000 % 2;
-  fragment_offset = number_at 2 20 frame % 0x2000;
+  total_length = big_at 2 16 frame;
+  more_fragments = big_at 2 20 frame / 0x2000 % 2;
+  fragment_offset = big_at 2 20 frame % 0x2000;
   protocol = slice_index frame 23;
-  source_address = number_at 4 26 frame;
-  destination_address = number_at 4 30 frame;
-  source_port = number_at 2 (14 + header_length_of frame) frame;
-  destination_port = number_at 2 (16 + header_length_of frame) frame;
-  udp_length = number_at 2 (18 + header_length_of frame) frame;
+  source_address = big_at 4 26 frame;
+  destination_address = big_at 4 30 frame;
+  source_port = big_at 2 (14 + header_length_of frame) frame;
+  destination_port = big_at 2 (16 + header_length_of frame) frame;
+  udp_length = big_at 2 (18 + header_length_of frame) frame;
 }
 
 -- one direction of a channel: the channel's number, the sending side, and who sends to whom
@@ -144,7 +146,7 @@ map_found f (Err fault) = Err fault
 
 -- the frame has a tag: its type field is that of IEEE 802.1Q, and the tag is captured whole
 abbrev pub is_tagged : List ℕ → Bool
-is_tagged frame = nat_le 16 (length frame) && number_at 2 12 frame == 0x8100
+is_tagged frame = nat_le 16 (length frame) && big_at 2 12 frame == 0x8100
 
 -- the frame without its tag, bytes 12 to 15
 abbrev pub without_tag : List ℕ → List ℕ

@@ -1,6 +1,6 @@
 //! The datagram in a captured frame.
 ghost use Rattle.std.specs.Prelude.{◌≡◌, ◌+◌, ◌≤◌, [], ◌∷◌, length, option_map, ◌||◌, nat_lt, ◌==◌};
-ghost use Rattle.rasta_udp.specs.Frame.{Direction, address_of, number_at, header_length_of, fields_of, has_addresses, has_known_addresses, goes, direction_of, map_found, packet_of, packet_at, untagged_of, packet_in};
+ghost use Rattle.rasta_udp.specs.Frame.{Direction, address_of, big_at, header_length_of, fields_of, has_addresses, has_known_addresses, goes, direction_of, map_found, packet_of, packet_at, untagged_of, packet_in};
 
 use crate::channel::{Channel, Datagram, Endpoint};
 use crate::layout::{
@@ -30,18 +30,18 @@ const UDP_HEADER: usize = 8;
 // The flag of more fragments, and the fragment offset.
 const FRAGMENT_BITS: u16 = 0x3fff;
 
-#[tactic(auto, unfolding(crate::specs::Frame::number_at))]
+#[tactic(auto, unfolding(crate::specs::Frame::big_at))]
 fn u16_at(bytes: &[u8], place: usize) -> u16
     requires { place + 2 ≤ length bytes.now }
-    ensures { result ≡ number_at 2 place bytes.now }
+    ensures { result ≡ big_at 2 place bytes.now }
 {
     BigEndian::read_u16(&bytes[place..])
 }
 
-#[tactic(auto, unfolding(crate::specs::Frame::number_at))]
+#[tactic(auto, unfolding(crate::specs::Frame::big_at))]
 fn u32_at(bytes: &[u8], place: usize) -> u32
     requires { place + 4 ≤ length bytes.now }
-    ensures { result ≡ number_at 4 place bytes.now }
+    ensures { result ≡ big_at 4 place bytes.now }
 {
     BigEndian::read_u32(&bytes[place..])
 }

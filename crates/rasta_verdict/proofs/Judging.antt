@@ -6,14 +6,15 @@ use Rattle.rasta_pdu.specs.Params.{Parameters}
 use Rattle.rasta_cert.specs.Certificate.{IsCertificate, Scripts, certificate_text}
 use Rattle.rasta_check.specs.declared.report.Report.{Report}
 use Rattle.rasta_check.specs.Verdict.Headline.{Headline}
-use Rattle.rasta_check.specs.Capture.Reading.{Crossing, IsCrossing, crossing_of}
+use Rattle.rasta_check.specs.Capture.Crossing.{Crossing, IsCrossing}
+use Rattle.rasta_check.specs.Capture.Reading.{crossing_of}
 use Rattle.rasta_check.specs.Verdict.Report as report
 use Rattle.rasta_check.specs.Verdict.Report.{BothFit, IsScriptVerdict}
 use Rattle.rasta_verdict.specs.declared.verdict.Verdict.{Verdict}
 use Rattle.rasta_verdict.specs.declared.verdict.Verdict.TheVariants as verdicts
 use Rattle.rasta_check.proofs.Verdict.FileVerdicts.{same_params}
 use Rattle.rasta_verdict.specs.Claims.{ClaimsHeadline}
-use Rattle.rasta_verdict.specs.Judged.{IsChecked, IsJudged, status_of_verdict, text_of_verdict}
+use Rattle.rasta_verdict.specs.Judged.{IsChecked, IsVerdictByScripts, status_of_verdict, text_of_verdict}
 use Rattle.std.specs.List.{flat_map}
 use Rattle.rasta_check.specs.Run.Lines.{Line}
 use Rattle.rasta_check.proofs.Run.Simulation.{simulation}
@@ -59,7 +60,7 @@ abbrev pub Told : Crossing → Scripts → Verdict → Type 0
 Told k scripts v = (p : Parameters) (file text : List ℕ) → crossing_of p file ≡ Ok k → text ≡ certificate_text scripts → IsCertificate scripts
     → IsVerdict p text file (text_of_verdict v) (status_of_verdict v)
 
-one : (k : Crossing) (scripts : Scripts) (v : Verdict) → IsJudged k scripts v → Told k scripts v
+one : (k : Crossing) (scripts : Scripts) (v : Verdict) → IsVerdictByScripts k scripts v → Told k scripts v
 one k scripts (verdicts.Unscripted fault) judged p file text crossed is valid = absurd judged
 one k scripts (verdicts.Refused fault certificate) judged p file text crossed is valid = verdict.script_refused k scripts fault crossed is valid judged.1.0
 one k scripts (verdicts.Explained e) judged p file text crossed is valid =
@@ -68,8 +69,8 @@ one k scripts (verdicts.Explained e) judged p file text crossed is valid =
     (verdict.explained k scripts (report.explained e.report) crossed is valid judged.2))
 
 -- the verdict on these scripts, of every capture of which this crossed
-pub verdict_stands : (r : Result Verdict Fault) (k : Crossing) (scripts : Scripts) → IfOk r (IsJudged k scripts) → IfOk r (Told k scripts)
-verdict_stands r k scripts h = if_ok_map r (λ (v : Verdict) (judged : IsJudged k scripts v). one k scripts v judged) h
+pub verdict_stands : (r : Result Verdict Fault) (k : Crossing) (scripts : Scripts) → IfOk r (IsVerdictByScripts k scripts) → IfOk r (Told k scripts)
+verdict_stands r k scripts h = if_ok_map r (λ (v : Verdict) (judged : IsVerdictByScripts k scripts v). one k scripts v judged) h
 
 -- ---- the headline
 
@@ -77,7 +78,7 @@ verdict_stands r k scripts h = if_ok_map r (λ (v : Verdict) (judged : IsJudged 
 abbrev pub Claimed : Parameters → List ℕ → Verdict → Type 0
 Claimed p file v = ClaimsHeadline p file (text_of_verdict v) (status_of_verdict v)
 
-claim : (p : Parameters) (file : List ℕ) (k : Crossing) (scripts : Scripts) (v : Verdict) → crossing_of p file ≡ Ok k → IsJudged k scripts v → Claimed p file v
+claim : (p : Parameters) (file : List ℕ) (k : Crossing) (scripts : Scripts) (v : Verdict) → crossing_of p file ≡ Ok k → IsVerdictByScripts k scripts v → Claimed p file v
 claim p file k scripts (verdicts.Unscripted fault) crossed judged status = absurd (cc)
 claim p file k scripts (verdicts.Refused fault certificate) crossed judged status = absurd (cc)
 claim p file k scripts (verdicts.Explained e) crossed judged status = record {
@@ -104,9 +105,9 @@ abbrev pub ClaimedOf : Crossing → Verdict → Type 0
 ClaimedOf k v = (p : Parameters) (file : List ℕ) → crossing_of p file ≡ Ok k → Claimed p file v
 
 -- what the checker explains has the headline
-pub judged_claims : (r : Result Verdict Fault) (k : Crossing) (scripts : Scripts) → IfOk r (IsJudged k scripts) → IfOk r (ClaimedOf k)
+pub judged_claims : (r : Result Verdict Fault) (k : Crossing) (scripts : Scripts) → IfOk r (IsVerdictByScripts k scripts) → IfOk r (ClaimedOf k)
 judged_claims r k scripts h = if_ok_map r
-    (λ (v : Verdict) (judged : IsJudged k scripts v) (p : Parameters) (file : List ℕ) (crossed : crossing_of p file ≡ Ok k). claim p file k scripts v crossed judged) h
+    (λ (v : Verdict) (judged : IsVerdictByScripts k scripts v) (p : Parameters) (file : List ℕ) (crossed : crossing_of p file ≡ Ok k). claim p file k scripts v crossed judged) h
 
 -- a refusal claims nothing
 pub refusal_claims : (r : Result Verdict Fault) (k : Crossing) (fault : Fault) → IfOk r (λ v. v ≡ verdicts.Unscripted fault) → IfOk r (ClaimedOf k)

@@ -9,11 +9,12 @@ use Rattle.rasta_pcap.specs.Devices.{Writes}
 use Rattle.rasta_pcap.specs.Stream.{ReadsSo}
 use Rattle.rasta_pdu.specs.Params.{Parameters}
 use Rattle.rasta_cert.specs.Certificate.{IsCertificate, Scripts}
-use Rattle.rasta_check.specs.Capture.Reading.{Crossing, IsCrossing, crossing_of}
+use Rattle.rasta_check.specs.Capture.Crossing.{Crossing, IsCrossing}
+use Rattle.rasta_check.specs.Capture.Reading.{crossing_of}
 use Rattle.rasta_check.specs.Verdict.Report as report
 use Rattle.rasta_verdict.specs.declared.verdict.Verdict.{Verdict}
 use Rattle.rasta_verdict.specs.declared.verdict.Verdict.TheVariants as verdicts
-use Rattle.rasta_verdict.specs.Judged.{IsJudged, status_of_verdict, text_of_verdict, told_verdict}
+use Rattle.rasta_verdict.specs.Judged.{IsVerdictByScripts, status_of_verdict, text_of_verdict, told_verdict}
 use Rattle.rasta_show.specs.Lines.{refused_line}
 use Rattle.rasta_verdict.specs.Proposed as proposed
 use Rattle.rasta_verdict.specs.Proposed.{BeginsOutcome, IsOutcome, Telling}
@@ -22,7 +23,7 @@ use Rattle.rasta_verdict.specs.Decided.{Decides}
 use Rattle.rasta_verdict.specs.Decided as decided
 use Rattle.rasta_build.specs.Choices.{IsProposalFault, IsUnexplained}
 use Rattle.rasta_build.specs.Completeness.{IsComplete}
-use Rattle.rasta_check.specs.Capture.Crossing.{FirstCopy}
+use Rattle.rasta_check.specs.Capture.SentLists.{FirstCopy}
 use Rattle.rasta_check.specs.Verdict.Report.{BothFit}
 use Rattle.rasta_check.proofs.Verdict.FileVerdicts.{same_params}
 use Rattle.rasta_verdict.proofs.Verdicts.{IsRefusal, Texts, if_ok_map}
@@ -38,7 +39,7 @@ abbrev pub Fit : Crossing → Scripts → Type 0
 Fit k scripts = BothFit k.params (length k.packets) k.client k.server scripts
 
 judged_outcome : (tell : Telling) (p : Parameters) (file : List ℕ) (k : Crossing) (scripts : Scripts) (v : Verdict) → crossing_of p file ≡ Ok k
-    → IsCertificate scripts → Fit k scripts → IsJudged k scripts v → Outcome p file tell v
+    → IsCertificate scripts → Fit k scripts → IsVerdictByScripts k scripts v → Outcome p file tell v
 judged_outcome tell p file k scripts (verdicts.Unscripted fault) crossed valid fit judged = absurd judged
 judged_outcome tell p file k scripts (verdicts.Refused fault certificate) crossed valid fit judged = absurd (judged.1.1 fit)
 judged_outcome tell p file k scripts (verdicts.Explained e) crossed valid fit judged =
@@ -50,9 +51,9 @@ abbrev pub Crossed : Crossing → Verdict → Type 0
 Crossed k v = (tell : Telling) (p : Parameters) (file : List ℕ) → crossing_of p file ≡ Ok k → Outcome p file tell v
 
 -- what the checker said of scripts that fit
-pub judged_stands : (r : Result Verdict Fault) (k : Crossing) (scripts : Scripts) → IsCertificate scripts × Fit k scripts → IfOk r (IsJudged k scripts) → IfOk r (Crossed k)
+pub judged_stands : (r : Result Verdict Fault) (k : Crossing) (scripts : Scripts) → IsCertificate scripts × Fit k scripts → IfOk r (IsVerdictByScripts k scripts) → IfOk r (Crossed k)
 judged_stands r k scripts proposed h = if_ok_map r
-    (λ (v : Verdict) (judged : IsJudged k scripts v) (tell : Telling) (p : Parameters) (file : List ℕ) (crossed : crossing_of p file ≡ Ok k).
+    (λ (v : Verdict) (judged : IsVerdictByScripts k scripts v) (tell : Telling) (p : Parameters) (file : List ℕ) (crossed : crossing_of p file ≡ Ok k).
     judged_outcome tell p file k scripts v crossed proposed.0 proposed.1 judged) h
 
 -- the builder's refusal, but for memory, names a place
@@ -80,14 +81,14 @@ none_stands r k c s fault why h = if_ok_map r
 abbrev pub DecidedOf : Crossing → Verdict → Type 0
 DecidedOf k v = (tell : Telling) (p : Parameters) (file : List ℕ) → crossing_of p file ≡ Ok k → Decides p file (told_verdict tell v) (status_of_verdict v)
 
-judged_decides : (k : Crossing) (scripts : Scripts) (v : Verdict) → Fit k scripts → IsJudged k scripts v → DecidedOf k v
+judged_decides : (k : Crossing) (scripts : Scripts) (v : Verdict) → Fit k scripts → IsVerdictByScripts k scripts v → DecidedOf k v
 judged_decides k scripts (verdicts.Unscripted fault) fit judged tell p file crossed = absurd judged
 judged_decides k scripts (verdicts.Refused fault certificate) fit judged tell p file crossed = absurd (judged.1.1 fit)
 judged_decides k scripts (verdicts.Explained e) fit judged tell p file crossed = λ j same. inl refl
 
 -- scripts that fit are explained
-pub judged_decided : (r : Result Verdict Fault) (k : Crossing) (scripts : Scripts) → IsCertificate scripts × Fit k scripts → IfOk r (IsJudged k scripts) → IfOk r (DecidedOf k)
-judged_decided r k scripts proposed h = if_ok_map r (λ (v : Verdict) (judged : IsJudged k scripts v). judged_decides k scripts v proposed.1 judged) h
+pub judged_decided : (r : Result Verdict Fault) (k : Crossing) (scripts : Scripts) → IsCertificate scripts × Fit k scripts → IfOk r (IsVerdictByScripts k scripts) → IfOk r (DecidedOf k)
+judged_decided r k scripts proposed h = if_ok_map r (λ (v : Verdict) (judged : IsVerdictByScripts k scripts v). judged_decides k scripts v proposed.1 judged) h
 
 -- what the builder found none for
 none_decides : (k : Crossing) (fault : Fault) (place : ℕ) → fault ≡ fault_at not_found place → IsCrossing k

@@ -10,10 +10,10 @@ use Rattle.rasta_end.specs.declared.why.Why.{Why}
 use Rattle.rasta_cert.specs.declared.entry.Entry.{Entry}
 use Rattle.rasta_cert.specs.declared.entry.Entry.TheVariants.{Take}
 use Rattle.rasta_cert.specs.Certificate.{Scripts}
-use Rattle.rasta_check.specs.Capture.Crossing.{Spells}
+use Rattle.rasta_check.specs.Capture.SentLists.{Spells}
 use Rattle.rasta_check.specs.Run.Lines.{number_of}
 use Rattle.rasta_check.specs.Run.Levels.{makes_at, takes_at}
-use Rattle.rasta_verdict.specs.RunText.{take_line}
+use Rattle.rasta_verdict.specs.RunText.{take_text}
 use Rattle.rasta_verdict.specs.Told.{IsAfter, IsAfterTakes, IsOrderedFrom, of_side, takes_text, told_crossing, told_level, told_levels, told_packet}
 use Rattle.rasta_check.proofs.Capture.Crossings.{number_spelled}
 use Rattle.rasta_check.proofs.Run.Entries.{below, makes_past, takes_here, takes_other}
@@ -39,16 +39,16 @@ among-next level number script here rest h e = record {
 pub among-end : (level : ℕ) (script rest : List Entry) → IsAmongTakes level script rest → takes_at level rest ≡ [] → IsAfterTakes level script rest
 among-end level script rest h none = record { order = h.order; none_left = none; takes = h.takes; makes = h.makes }
 
-pub takes_text-next : (level number : ℕ) (side : Side) (here rest : List Entry) (line : List ℕ) → here ≡ Take level number ∷ rest → line ≡ take_line level side number
+pub takes_text-next : (level number : ℕ) (side : Side) (here rest : List Entry) (line : List ℕ) → here ≡ Take level number ∷ rest → line ≡ take_text level side number
     → takes_text level side here ≡ line ++ takes_text level side rest
 unfolding takes_text
 takes_text-next level number side here rest line e f =
-    ap (λ (l : List ℕ). flat_map (take_line level side) l) (ap (takes_at level) e ∙ takes_here level number rest)
+    ap (λ (l : List ℕ). flat_map (take_text level side) l) (ap (takes_at level) e ∙ takes_here level number rest)
     ∙ ap (λ (l : List ℕ). l ++ takes_text level side rest) (sym f)
 
 pub takes_text-end : (level : ℕ) (side : Side) (rest : List Entry) → takes_at level rest ≡ [] → takes_text level side rest ≡ []
 unfolding takes_text
-takes_text-end level side rest none = ap (λ (l : List ℕ). flat_map (take_line level side) l) none
+takes_text-end level side rest none = ap (λ (l : List ℕ). flat_map (take_text level side) l) none
 
 -- ---- the packet of a level
 
@@ -108,7 +108,7 @@ pub record SayTheSame (low : ℕ) (c d : Scripts) : Type 0 where
 
 same_takes_text : (level : ℕ) (side : Side) (es fs : List Entry) → takes_at level es ≡ takes_at level fs → takes_text level side es ≡ takes_text level side fs
 unfolding takes_text
-same_takes_text level side es fs e = ap (λ (l : List ℕ). flat_map (take_line level side) l) e
+same_takes_text level side es fs e = ap (λ (l : List ℕ). flat_map (take_text level side) l) e
 
 same_level : (packets : List udp.Packet) (c d : Scripts) (low level : ℕ) → SayTheSame low c d → low ≤ level → told_level packets c level ≡ told_level packets d level
 unfolding told_level

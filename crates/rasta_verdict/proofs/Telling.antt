@@ -14,13 +14,13 @@ use Rattle.rasta_end.specs.State.{EndState}
 use Rattle.rasta_cert.specs.declared.entry.Entry.{Entry}
 use Rattle.rasta_cert.specs.declared.entry.Entry.TheVariants.{Take, Make}
 use Rattle.rasta_cert.specs.Certificate.{Scripts}
-use Rattle.rasta_check.specs.Capture.Crossing.{FirstCopy}
+use Rattle.rasta_check.specs.Capture.SentLists.{FirstCopy}
 use Rattle.rasta_check.specs.Capture.Lists.{places_of, position_of_place}
-use Rattle.rasta_check.specs.Capture.Reading.{Crossing}
+use Rattle.rasta_check.specs.Capture.Crossing.{Crossing}
 use Rattle.rasta_check.specs.Script.Fitting.{AreInOrder, Fits, places_made}
 use Rattle.rasta_check.specs.Run.Lines.{Line, number_of}
 use Rattle.rasta_check.specs.Run.Levels.{makes_at, takes_at, by_side_lines, crossed_lines, each_make, each_take, level_lines, levels_lines, packet_lines, takes_lines}
-use Rattle.rasta_verdict.specs.RunText.{copy_line, line_text, make_line, run_text, take_line, what_text}
+use Rattle.rasta_verdict.specs.RunText.{copy_text, line_text, make_text, run_text, take_text, what_text}
 use Rattle.rasta_verdict.specs.Told.{IsOrderedFrom, IsTold, of_side, takes_text, told_crossing, told_level, told_levels, told_packet}
 use Rattle.rasta_check.proofs.Run.Entries.{makes_here, makes_none, makes_other, makes_past}
 
@@ -96,19 +96,19 @@ a_make place (Make index clock why ∷ es) e =
 
 -- ---- the text of lines
 
-takes_say : (level : ℕ) (side : Side) (numbers : List ℕ) → flat_map line_text (each_take level side numbers) ≡ flat_map (take_line level side) numbers
+takes_say : (level : ℕ) (side : Side) (numbers : List ℕ) → flat_map line_text (each_take level side numbers) ≡ flat_map (take_text level side) numbers
 unfolding line_text what_text
 takes_say level side [] = refl
-takes_say level side (n ∷ ns) = ap (λ (l : List ℕ). take_line level side n ++ l) (takes_say level side ns)
+takes_say level side (n ∷ ns) = ap (λ (l : List ℕ). take_text level side n ++ l) (takes_say level side ns)
 
-makes_say : (place : ℕ) (side : Side) (number : ℕ) (ms : List (ℕ × Why)) → flat_map line_text (each_make place side number ms) ≡ flat_map (make_line place side number) ms
+makes_say : (place : ℕ) (side : Side) (number : ℕ) (ms : List (ℕ × Why)) → flat_map line_text (each_make place side number ms) ≡ flat_map (make_text place side number) ms
 unfolding line_text what_text
 makes_say place side number [] = refl
-makes_say place side number (m ∷ ms) = ap (λ (l : List ℕ). make_line place side number m ++ l) (makes_say place side number ms)
+makes_say place side number (m ∷ ms) = ap (λ (l : List ℕ). make_text place side number m ++ l) (makes_say place side number ms)
 
-copy_says : (place : ℕ) (side : Side) (number : ℕ) (ms : List (ℕ × Why)) → flat_map line_text (crossed_lines place side number None ms) ≡ copy_line place side number
+copy_says : (place : ℕ) (side : Side) (number : ℕ) (ms : List (ℕ × Why)) → flat_map line_text (crossed_lines place side number None ms) ≡ copy_text place side number
 unfolding line_text what_text
-copy_says place side number ms = append-nil (copy_line place side number)
+copy_says place side number ms = append-nil (copy_text place side number)
 
 -- ---- what is no make is a copy
 
@@ -124,7 +124,7 @@ crossed place side number es own same = by (position_of_place own place) refl
     by (Some i) e =
         let some = a_make place es (ap (is_found place) same ∙ found place i (places_of own) e) in
         makes_say place side number (makes_at place es)
-        ∙ (ap (λ (l : List (ℕ × Why)). flat_map (make_line place side number) l) some.2
+        ∙ (ap (λ (l : List (ℕ × Why)). flat_map (make_text place side number) l) some.2
         ∙ sym (ap (told_crossing place side number) some.2))
 
 three : (xs ys zs : List Line) → flat_map line_text (xs ++ (ys ++ zs)) ≡ flat_map line_text xs ++ (flat_map line_text ys ++ flat_map line_text zs)

@@ -18,7 +18,8 @@ use Rattle.rasta_cert.proofs.RefusalLemmas.{one_refusal}
 use Rattle.rasta_cert.proofs.ScriptLemmas.{certificate_text_injective}
 use Rattle.rasta_check.specs.declared.report.Taken.{Taken}
 use Rattle.rasta_check.specs.Verdict.Listed.{ListedMessage, listed_of}
-use Rattle.rasta_check.specs.Capture.Reading.{Crossing, crossing_of}
+use Rattle.rasta_check.specs.Capture.Crossing.{Crossing}
+use Rattle.rasta_check.specs.Capture.Reading.{crossing_of}
 use Rattle.rasta_check.specs.Verdict.Report.{Explained, IsScriptVerdict}
 use Rattle.rasta_check.proofs.Script.Fits.{one_answer}
 use Rattle.rasta_show.proofs.Sending.{words_before-append}

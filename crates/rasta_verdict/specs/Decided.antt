@@ -3,12 +3,13 @@ use Rattle.std.specs.Prelude.{◌≡◌, ◌⊎◌, ◌↔◌, ℕ, ◌<◌, Lis
 use Rattle.rasta_pcap.specs.Fault.{fault_at, not_found}
 use Rattle.rasta_udp.specs.Frame.{Packet}
 use Rattle.rasta_pdu.specs.Params.{Parameters}
-use Rattle.rasta_check.specs.Capture.Reading.{Crossing, crossing_of}
+use Rattle.rasta_check.specs.Capture.Crossing.{Crossing}
+use Rattle.rasta_check.specs.Capture.Reading.{crossing_of}
 use Rattle.rasta_build.specs.Completeness.{CanCross}
 use Rattle.rasta_show.specs.Lines.{refused_line}
 
--- The text refuses by 60 at a place, counted from 1: no run of two ends within the limits sends packets that begin with those
--- up to that place, and some run sends exactly those before it.
+-- The text refuses by 60 at a place, counted from 1: no run of two ends within the limits sends packets that begin with
+-- those up to that place, and some run sends exactly those before it.
 pub record IsUnexplained (p : Parameters) (packets : List Packet) (text : List ℕ) : Type 0 where
   pub place : ℕ
   pub told : text ≡ refused_line (fault_at not_found place)

@@ -2,9 +2,9 @@
 use Rattle.std.specs.Prelude.{◌≡◌, ℕ, List, length, Option, None, Some, Ok, Err}
 use Rattle.rasta_pcap.specs.declared.fault.Fault.{Fault}
 use Rattle.rasta_cert.specs.Certificate.{Scripts, IsCertificate, certificate_text}
-use Rattle.rasta_cert.specs.Refusals.{IsRefused}
+use Rattle.rasta_cert.specs.Refusals.{IsRefusedText}
 use Rattle.rasta_build.specs.Completeness.{IsAnswer, IsComplete}
-use Rattle.rasta_check.specs.Capture.Reading.{Crossing}
+use Rattle.rasta_check.specs.Capture.Crossing.{Crossing}
 use Rattle.rasta_check.specs.Verdict.Report.{IsScriptVerdict, explained}
 use Rattle.rasta_check.specs.Verdict.Report as reports
 use Rattle.rasta_verdict.specs.declared.verdict.Verdict.{Verdict}
@@ -17,8 +17,9 @@ AreScripts k None scripts = IsAnswer k.params k.client k.server (Ok scripts)
 
 -- the text is no certificate's, or the builder finds none
 abbrev pub IsUnscripted : Crossing → Option (List ℕ) → Fault → Type 0
-IsUnscripted k (Some text) fault = IsRefused text fault
-IsUnscripted k None fault = IsAnswer k.params k.client k.server (Err fault) × IsComplete k.params k.client k.server (Err fault)
+IsUnscripted k (Some text) fault = IsRefusedText text fault
+IsUnscripted k None fault = IsAnswer k.params k.client k.server (Err fault)
+    × IsComplete k.params k.client k.server (Err fault)
 
 -- the verdict on what crossed and the text of a certificate, if one is given
 abbrev pub IsVerdictOn : Crossing → Option (List ℕ) → Verdict → Type 0
@@ -40,5 +41,6 @@ IsExplained k text = (report : reports.Explained) × IsExplainedBy k text report
 -- the text or its scripts are refused by this fault, or none is found
 pub data IsRefusedBy (k : Crossing) (text : Option (List ℕ)) (fault : Fault) : Type 0 where
   unscripted : IsUnscripted k text fault → IsRefusedBy k text fault
-  refused : (scripts : Scripts) → AreScripts k text scripts → IsScriptVerdict k.params (length k.packets) k.client k.server scripts (Err fault)
+  refused : (scripts : Scripts) → AreScripts k text scripts
+      → IsScriptVerdict k.params (length k.packets) k.client k.server scripts (Err fault)
       → IsRefusedBy k text fault

@@ -5,7 +5,7 @@ use Rattle.rasta_pcap.specs.Fault.{no_memory}
 use Rattle.rasta_cert.specs.Certificate.{Scripts}
 use Rattle.rasta_check.specs.declared.report.Report.{Report}
 use Rattle.rasta_check.specs.Verdict.Headline.{Headline}
-use Rattle.rasta_check.specs.Capture.Reading.{Crossing}
+use Rattle.rasta_check.specs.Capture.Crossing.{Crossing}
 use Rattle.rasta_check.specs.Verdict.Report.{BothFit, IsScriptVerdict, explained}
 use Rattle.rasta_show.specs.Lines.{refused_line}
 use Rattle.rasta_verdict.specs.Proposed.{Telling}
@@ -50,10 +50,10 @@ IsChecked k scripts (Ok report) = IsTold k scripts
 IsChecked k scripts (Err fault) = IsRefusedBy k scripts fault ⊎ (fault ≡ no_memory)
 
 -- the verdict on what crossed and these scripts
-abbrev pub IsJudged : Crossing → Scripts → Verdict → Type 0
-IsJudged k scripts (Unscripted fault) = ⊥
-IsJudged k scripts (Refused fault certificate) = (certificate ≡ scripts) × IsRefusedBy k scripts fault
-IsJudged k scripts (Explained e) = (e.store.now ≡ k) × (e.certificate ≡ scripts)
+abbrev pub IsVerdictByScripts : Crossing → Scripts → Verdict → Type 0
+IsVerdictByScripts k scripts (Unscripted fault) = ⊥
+IsVerdictByScripts k scripts (Refused fault certificate) = (certificate ≡ scripts) × IsRefusedBy k scripts fault
+IsVerdictByScripts k scripts (Explained e) = (e.store.now ≡ k) × (e.certificate ≡ scripts)
     × IsScriptVerdict k.params (length k.packets) k.client k.server scripts (Ok (explained e.report))
     × Headline k.params k.packets (explained e.report)
     × IsToldRun k.params k.packets (run_text k scripts)

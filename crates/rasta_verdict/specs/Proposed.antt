@@ -4,7 +4,8 @@ use Rattle.rasta_pcap.specs.declared.fault.Fault.{Fault}
 use Rattle.rasta_pcap.specs.Fault.{fault_at, not_found}
 use Rattle.rasta_pdu.specs.Params.{Parameters}
 use Rattle.rasta_cert.specs.Certificate.{IsCertificate, Scripts, certificate_text}
-use Rattle.rasta_check.specs.Capture.Reading.{Crossing, crossing_of}
+use Rattle.rasta_check.specs.Capture.Crossing.{Crossing}
+use Rattle.rasta_check.specs.Capture.Reading.{crossing_of}
 use Rattle.rasta_check.specs.Verdict.Report.{Explained, IsScriptVerdict}
 use Rattle.rasta_show.specs.Lines.{refused_line}
 use Rattle.rasta_show.specs.Runs.{ReadsAndWrites}
@@ -39,5 +40,8 @@ abbrev pub IsBuild : Parameters → List ℕ → List ℕ → ℕ → Type 0
 IsBuild p file text status = IsOutcome built_text p file text status
 
 -- what was written begins some text of every input that begins with what was read
-abbrev pub BeginsOutcome : (List ℕ → List ℕ → ℕ → Type 0) → Option (List ℕ) → Option (List ℕ) → Option (List ℕ) → Option (List ℕ) → Type 0
-BeginsOutcome IsText = ReadsAndWrites (λ file output. (text rest : List ℕ) × (status : ℕ) × IsText file text status × (text ≡ output ++ rest))
+abbrev pub BeginsOutcome : (List ℕ → List ℕ → ℕ → Type 0) → Option (List ℕ) → Option (List ℕ) → Option (List ℕ)
+    → Option (List ℕ) → Type 0
+BeginsOutcome IsText =
+    ReadsAndWrites (λ file output. (text rest : List ℕ) × (status : ℕ) × IsText file text status
+    × (text ≡ output ++ rest))

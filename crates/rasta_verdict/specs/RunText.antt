@@ -5,29 +5,29 @@ use Rattle.std.specs.Fmt.{decimal}
 use Rattle.rasta_pcap.specs.declared.fault.Side.{Side}
 use Rattle.rasta_end.specs.declared.why.Why.{Why}
 use Rattle.rasta_cert.specs.Certificate.{Scripts, why_line}
-use Rattle.rasta_check.specs.Capture.Reading.{Crossing}
+use Rattle.rasta_check.specs.Capture.Crossing.{Crossing}
 use Rattle.rasta_check.specs.Run.Lines.{What, took, made, copied, brought, waited, Line}
 use Rattle.rasta_check.specs.Run.Levels.{run_lines}
 use Rattle.rasta_show.specs.Lines.{words_before, line_of, side_text}
 
 -- `LEVEL SIDE take NUMBER`
-unfoldable pub take_line : ℕ → Side → ℕ → List ℕ
-take_line level side number = line_of (decimal level ∷ side_text side ∷ codes "take" ∷ decimal number ∷ [])
+unfoldable pub take_text : ℕ → Side → ℕ → List ℕ
+take_text level side number = line_of (decimal level ∷ side_text side ∷ codes "take" ∷ decimal number ∷ [])
 
 -- `PLACE SIDE make NUMBER CLOCK WHY`
-unfoldable pub make_line : ℕ → Side → ℕ → ℕ × Why → List ℕ
-make_line place side number m =
+unfoldable pub make_text : ℕ → Side → ℕ → ℕ × Why → List ℕ
+make_text place side number m =
     words_before (decimal place ∷ side_text side ∷ codes "make" ∷ decimal number ∷ decimal m.0 ∷ []) (why_line m.1)
 
 -- `PLACE SIDE copy NUMBER`
-unfoldable pub copy_line : ℕ → Side → ℕ → List ℕ
-copy_line place side number = line_of (decimal place ∷ side_text side ∷ codes "copy" ∷ decimal number ∷ [])
+unfoldable pub copy_text : ℕ → Side → ℕ → List ℕ
+copy_text place side number = line_of (decimal place ∷ side_text side ∷ codes "copy" ∷ decimal number ∷ [])
 
 -- an arrival and the rise of a clock are left out
 unfoldable pub what_text : ℕ → Side → What → List ℕ
-what_text level side (took number) = take_line level side number
-what_text level side (made number clock why) = make_line level side number (clock, why)
-what_text level side (copied number) = copy_line level side number
+what_text level side (took number) = take_text level side number
+what_text level side (made number clock why) = make_text level side number (clock, why)
+what_text level side (copied number) = copy_text level side number
 what_text level side (brought number) = []
 what_text level side (waited clock) = []
 

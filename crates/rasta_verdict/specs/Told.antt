@@ -9,11 +9,11 @@ use Rattle.rasta_cert.specs.declared.entry.Entry.{Entry}
 use Rattle.rasta_cert.specs.declared.entry.Entry.TheVariants.{Take, Make}
 use Rattle.rasta_cert.specs.Certificate.{Scripts}
 use Rattle.rasta_check.specs.Capture.Lists.{places_of}
-use Rattle.rasta_check.specs.Capture.Reading.{Crossing}
+use Rattle.rasta_check.specs.Capture.Crossing.{Crossing}
 use Rattle.rasta_check.specs.Script.Fitting.{places_made}
 use Rattle.rasta_check.specs.Run.Lines.{number_of}
 use Rattle.rasta_check.specs.Run.Levels.{makes_at, takes_at}
-use Rattle.rasta_verdict.specs.RunText.{copy_line, make_line, take_line}
+use Rattle.rasta_verdict.specs.RunText.{copy_text, make_text, take_text}
 
 -- ---- the order of a script
 
@@ -49,11 +49,11 @@ pub record IsAfter (level : ℕ) (script rest : List Entry) : Type 0 where
 
 -- a line for each take of a side with this slot
 unfoldable pub takes_text : ℕ → Side → List Entry → List ℕ
-takes_text level side script = flat_map (take_line level side) (takes_at level script)
+takes_text level side script = flat_map (take_text level side) (takes_at level script)
 
 unfoldable pub told_crossing : ℕ → Side → ℕ → List (ℕ × Why) → List ℕ
-told_crossing place side number [] = copy_line place side number
-told_crossing place side number (made ∷ more) = flat_map (make_line place side number) (made ∷ more)
+told_crossing place side number [] = copy_text place side number
+told_crossing place side number (made ∷ more) = flat_map (make_text place side number) (made ∷ more)
 
 -- the makes of a side, of those of both
 abbrev pub of_side : List (ℕ × Why) → List (ℕ × Why) → Side → List (ℕ × Why)
@@ -72,4 +72,5 @@ told_level packets scripts level = takes_text level Client scripts.client ++ (ta
 -- so many levels, from this one on
 unfoldable pub told_levels : List udp.Packet → Scripts → ℕ → ℕ → List ℕ
 told_levels packets scripts level zero = []
-told_levels packets scripts level (suc left) = told_level packets scripts level ++ told_levels packets scripts (suc level) left
+told_levels packets scripts level (suc left) =
+    told_level packets scripts level ++ told_levels packets scripts (suc level) left

@@ -8,8 +8,8 @@ use Rattle.rasta_check.specs.Run.Moves.{Happened, Runs}
 use Rattle.rasta_check.specs.Run.Lines.{told}
 use Rattle.rasta_verdict.specs.RunText.{line_text}
 
--- the text tells a run: some run of two ends sends exactly these packets, and its takes, makes and copies, in its order, are the
--- lines of the text
+-- the text tells a run: some run of two ends sends exactly these packets, and its takes, makes and copies, in its
+-- order, are the lines of the text
 pub record IsToldRun (p : Parameters) (packets : List Packet) (text : List ℕ) : Type 0 where
   pub happened : List Happened
   pub world : World

@@ -7,8 +7,9 @@ use Rattle.rasta_pcap.specs.declared.fault.Side.{Side}
 use Rattle.rasta_pcap.specs.declared.fault.Side.TheVariants.{Client, Server}
 use Rattle.rasta_pdu.specs.Params.{Parameters}
 use Rattle.rasta_cert.specs.Certificate.{IsCertificate, Scripts, certificate_text}
-use Rattle.rasta_cert.specs.Refusals.{IsRefused}
-use Rattle.rasta_check.specs.Capture.Reading.{Crossing, crossing_of}
+use Rattle.rasta_cert.specs.Refusals.{IsRefusedText}
+use Rattle.rasta_check.specs.Capture.Crossing.{Crossing}
+use Rattle.rasta_check.specs.Capture.Reading.{crossing_of}
 use Rattle.rasta_check.specs.Verdict.Listed.{ListedMessage}
 use Rattle.rasta_check.specs.Verdict.Report.{Explained, IsScriptVerdict}
 use Rattle.rasta_show.specs.Lines.{line_of, message_text, refused_line, side_text}
@@ -50,7 +51,7 @@ pub data IsVerdict (p : Parameters) (certificate file : List ℕ) : List ℕ →
   capture_refused : (fault : Fault) → crossing_of p file ≡ Err fault
       → IsVerdict p certificate file (refused_line fault) 1
   certificate_refused : (k : Crossing) (fault : Fault) → crossing_of p file ≡ Ok k
-      → IsRefused certificate fault
+      → IsRefusedText certificate fault
       → IsVerdict p certificate file (refused_line fault) 1
   script_refused : (k : Crossing) (scripts : Scripts) (fault : Fault) → crossing_of p file ≡ Ok k
       → certificate ≡ certificate_text scripts → IsCertificate scripts
@@ -64,9 +65,13 @@ pub data IsVerdict (p : Parameters) (certificate file : List ℕ) : List ℕ →
 -- ---- what a run read and wrote, where a relation says which inputs have which text and status
 
 -- what was written and answered is a text and a status of every input that begins with what was read
-abbrev pub WritesVerdict : (List ℕ → List ℕ → ℕ → Type 0) → ℕ → Option (List ℕ) → Option (List ℕ) → Option (List ℕ) → Option (List ℕ) → Type 0
+abbrev pub WritesVerdict : (List ℕ → List ℕ → ℕ → Type 0) → ℕ → Option (List ℕ) → Option (List ℕ) → Option (List ℕ)
+    → Option (List ℕ) → Type 0
 WritesVerdict IsText answer = ReadsAndWrites (λ file output. IsText file output answer)
 
 -- what was written begins each text of every such input
-abbrev pub BeginsVerdict : (List ℕ → List ℕ → ℕ → Type 0) → Option (List ℕ) → Option (List ℕ) → Option (List ℕ) → Option (List ℕ) → Type 0
-BeginsVerdict IsText = ReadsAndWrites (λ file output. (text : List ℕ) (status : ℕ) → IsText file text status → (rest : List ℕ) × (text ≡ output ++ rest))
+abbrev pub BeginsVerdict : (List ℕ → List ℕ → ℕ → Type 0) → Option (List ℕ) → Option (List ℕ) → Option (List ℕ)
+    → Option (List ℕ) → Type 0
+BeginsVerdict IsText =
+    ReadsAndWrites (λ file output. (text : List ℕ) (status : ℕ) → IsText file text status
+    → (rest : List ℕ) × (text ≡ output ++ rest))

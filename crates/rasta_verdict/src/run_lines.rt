@@ -1,6 +1,6 @@
 //! The lines of a run.
 ghost use Rattle.std.specs.Prelude.{◌≡◌};
-ghost use Rattle.rasta_verdict.specs.RunText.{copy_line, make_line, take_line};
+ghost use Rattle.rasta_verdict.specs.RunText.{copy_text, make_text, take_text};
 
 use rasta_cert::begin_with_why;
 use rasta_end::Why;
@@ -17,9 +17,9 @@ pub struct Made {
 }
 
 /// Makes the line of a take: the slot, the end that takes, and the redundancy number.
-#[tactic(auto, unfolding(crate::specs::RunText::take_line))]
+#[tactic(auto, unfolding(crate::specs::RunText::take_text))]
 pub fn put_take(line: &mut Line, level: u32, side: Side, number: u32)
-    ensures { line.new ≡ take_line level side number }
+    ensures { line.new ≡ take_text level side number }
 {
     line.begin_with_number(u64::from(number));
     line.word(b"take");
@@ -28,9 +28,9 @@ pub fn put_take(line: &mut Line, level: u32, side: Side, number: u32)
 }
 
 /// Makes the line of a packet that its end made.
-#[tactic(auto, unfolding(crate::specs::RunText::make_line))]
+#[tactic(auto, unfolding(crate::specs::RunText::make_text))]
 pub fn put_make(line: &mut Line, place: u32, side: Side, number: u32, made: Made)
-    ensures { line.new ≡ make_line place side number (made.clock, made.why) }
+    ensures { line.new ≡ make_text place side number (made.clock, made.why) }
 {
     begin_with_why(line, made.why);
     line.long_number(made.clock);
@@ -41,9 +41,9 @@ pub fn put_make(line: &mut Line, place: u32, side: Side, number: u32, made: Made
 }
 
 /// Makes the line of a packet that is a copy of an earlier one.
-#[tactic(auto, unfolding(crate::specs::RunText::copy_line))]
+#[tactic(auto, unfolding(crate::specs::RunText::copy_text))]
 pub fn put_copy(line: &mut Line, place: u32, side: Side, number: u32)
-    ensures { line.new ≡ copy_line place side number }
+    ensures { line.new ≡ copy_text place side number }
 {
     line.begin_with_number(u64::from(number));
     line.word(b"copy");

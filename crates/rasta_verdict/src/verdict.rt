@@ -4,14 +4,14 @@ ghost use Rattle.rasta_pcap.specs.Fault.{no_memory};
 ghost use Rattle.rasta_pcap.specs.Devices.{Writes, AsWritten};
 ghost use Rattle.rasta_pdu.specs.Params.{Parameters};
 ghost use Rattle.rasta_cert.specs.Certificate.{IsCertificate, certificate_text};
-ghost use Rattle.rasta_cert.specs.Refusals.{IsRefused};
+ghost use Rattle.rasta_cert.specs.Refusals.{IsRefusedText};
 ghost use Rattle.rasta_check.specs.Capture.Reading.{crossing_of};
 ghost use Rattle.rasta_verdict.specs.declared.verdict.Verdict.TheVariants as verdicts;
 ghost use Rattle.rasta_verdict.specs.Told.{IsTold};
 ghost use Rattle.rasta_verdict.specs.Verdict.{IsVerdict, explained_line};
 ghost use Rattle.rasta_verdict.specs.Claims.{ClaimsHeadline};
 ghost use Rattle.rasta_verdict.specs.Given.{IsVerdictOn};
-ghost use Rattle.rasta_verdict.specs.Judged.{HasToldRun, IsChecked, IsJudged, status_of_verdict, text_of_explanation, text_of_verdict};
+ghost use Rattle.rasta_verdict.specs.Judged.{HasToldRun, IsChecked, IsVerdictByScripts, status_of_verdict, text_of_explanation, text_of_verdict};
 
 use crate::run_text::write_run;
 use crate::taken_text::write_taken;
@@ -63,7 +63,7 @@ fn verdict_by<'a>(
     checked: Result<Report<'a>, Fault>,
 ) -> Result<Verdict<'a>, Fault>
     requires { IsChecked store.now certificate checked }
-    ensures judged { IfOk result (IsJudged store.now certificate) }
+    ensures judged { IfOk result (IsVerdictByScripts store.now certificate) }
     ensures told { IfOk result HasToldRun }
     ensures err { IfErr result (λ f. f ≡ no_memory) }
 {
@@ -87,7 +87,7 @@ pub fn judge_scripts<'a>(
 ) -> Result<Verdict<'a>, Fault>
     ensures stands { IfOk result (λ v. (p : Parameters) (file text : List ℕ) → crossing_of p file ≡ Ok store.now
         → text ≡ certificate_text certificate → IsCertificate certificate → IsVerdict p text file (text_of_verdict v) (status_of_verdict v)) }
-    ensures judged { IfOk result (IsJudged store.now certificate) }
+    ensures judged { IfOk result (IsVerdictByScripts store.now certificate) }
     ensures told { IfOk result HasToldRun }
     ensures err { IfErr result (λ f. f ≡ no_memory) }
 {
@@ -98,7 +98,7 @@ pub fn judge_scripts<'a>(
 // The certificate of a text, which is let go.
 fn certificate_of<C: AsSlice<u8> + Drop>(alloc: Global, text: C) -> Result<Certificate, Fault>
     ensures ok { IfOk result (λ c. (C.items text ≡ certificate_text c) × IsCertificate c) }
-    ensures err { IfErr result (λ f. (f ≡ no_memory) ⊎ IsRefused (C.items text) f) }
+    ensures err { IfErr result (λ f. (f ≡ no_memory) ⊎ IsRefusedText (C.items text) f) }
 {
     read(alloc, text.as_slice())
 }

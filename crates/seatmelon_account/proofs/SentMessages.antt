@@ -8,7 +8,7 @@ use Rattle.rasta_check.proofs.Verdict.ListSteps.{left_at}
 use Rattle.rasta_pcap.specs.declared.fault.Side.{Side}
 use Rattle.rasta_pdu.specs.Params.{Parameters}
 use Rattle.rasta_pdu.specs.Pdu.{SafetyPdu, messages_in}
-use Rattle.rasta_check.specs.Capture.Crossing.{FirstCopy}
+use Rattle.rasta_check.specs.Capture.SentLists.{FirstCopy}
 use Rattle.rasta_check.specs.Model.Taken.{all_made, data_copies, pdus_of, surely_taken, units_from, units_taken}
 use Rattle.rasta_check.specs.Verdict.Listed.{ListedMessage, TakenMessage, listed, messages_of_unit, messages_taken, numbered_from}
 use Rattle.seatmelon_account.specs.Messages.{AreFirst, Placed, ProvedBy, listed_placed, messages_of_copy, messages_sent, placed_at, placed_of, proof_in, taken_of}

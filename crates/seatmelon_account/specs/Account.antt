@@ -3,7 +3,7 @@ use Rattle.std.specs.Prelude.{◌≡◌, ℕ, List, [], ◌∷◌, length, take,
 use Rattle.sha2.specs.Sha256.{sha256}
 use Rattle.rasta_pcap.specs.declared.fault.Side.TheVariants.{Client, Server}
 use Rattle.rasta_pdu.specs.Params.{Parameters}
-use Rattle.rasta_check.specs.Capture.Reading.{Crossing}
+use Rattle.rasta_check.specs.Capture.Crossing.{Crossing}
 use Rattle.rasta_check.specs.Verdict.Report as reports
 use Rattle.rasta_verdict.specs.Given.{IsExplainedBy, IsRefusedBy}
 use Rattle.seatmelon_reading.specs.declared.capture_refusal.CaptureRefusal.{CaptureRefusal}
@@ -22,7 +22,8 @@ use Rattle.seatmelon_account.specs.declared.account.Verdict.{Verdict}
 use Rattle.seatmelon_account.specs.declared.refusal.Refusal.{Refusal}
 use Rattle.seatmelon_account.specs.declared.account.Verdict.TheVariants.{NoPackets, Refused, Explained}
 
--- the fault that is told is that of the capture, with its record, or that of the verdict on what crossed, with its place
+-- the fault that is told is that of the capture, with its record, or that of the verdict on what crossed, with its
+-- place
 abbrev pub IsToldRefusal : Parameters → Crossing → Option CaptureRefusal → Option (List ℕ) → Refusal → Type 0
 IsToldRefusal p k (Some refusal) text told = (told.fault ≡ refusal.fault) × TellsRecord p k refusal told.subject
 IsToldRefusal p k None text told = IsRefusedBy k text told.fault × TellsPlace k told.fault told.subject
@@ -32,7 +33,8 @@ abbrev pub IsToldOf : Parameters → Crossing → Option CaptureRefusal → Opti
 IsToldOf p k refusal text NoPackets = (refusal ≡ None) × (length k.packets ≡ 0)
 IsToldOf p k refusal text (Refused told) = IsToldRefusal p k refusal text told
 IsToldOf p k refusal text (Explained e) = (refusal ≡ None) × ((report : reports.Explained) × IsExplainedBy k text report
-    × (e.packets ≡ report.packets) × IsDirection k.client report.server_taken e.client × IsDirection k.server report.client_taken e.server)
+    × (e.packets ≡ report.packets) × IsDirection k.client report.server_taken e.client
+    × IsDirection k.server report.client_taken e.server)
 
 abbrev pub text_in : Inputs → Option (List ℕ)
 text_in i = option_map (λ text. text.now) i.texts.certificate
@@ -42,7 +44,8 @@ sum_of file = file.sum
 
 -- the longest silence of the client, and that of the server
 abbrev pub AreSilences : List Sighting → List (Option Silence) → Type 0
-AreSilences packets (client ∷ server ∷ []) = IsLongestSilence packets Client client × IsLongestSilence packets Server server
+AreSilences packets (client ∷ server ∷ []) = IsLongestSilence packets Client client
+    × IsLongestSilence packets Server server
 AreSilences packets other = ⊥
 
 -- this is told of what was read

@@ -8,14 +8,15 @@ use Rattle.rasta_pdu.specs.declared.kind.Kind.{Kind}
 use Rattle.rasta_pdu.specs.declared.kind.Kind.TheVariants.{ConnectionRequest, ConnectionResponse}
 use Rattle.rasta_pdu.specs.declared.pdu.Pdu.{Pdu}
 use Rattle.rasta_pdu.specs.Pdu.{RedundancyPdu, is_kind, value_of}
-use Rattle.rasta_check.specs.Capture.Crossing.{FirstCopy}
+use Rattle.rasta_check.specs.Capture.SentLists.{FirstCopy}
 use Rattle.rasta_check.specs.Capture.Lists.{position_of_place}
-use Rattle.rasta_check.specs.Capture.Reading.{Crossing, sent_by}
+use Rattle.rasta_check.specs.Capture.Crossing.{Crossing, sent_by}
 use Rattle.seatmelon_account.specs.declared.crossed.Crossed.{Crossed}
 
 -- the PDU of an end at a place, if a first copy crossed there
 abbrev pub pdu_at : List FirstCopy → ℕ → Option RedundancyPdu
-pdu_at sent place = option_map (λ (copy : FirstCopy). copy.pdu) (option_and_then (slice_get sent) (position_of_place sent place))
+pdu_at sent place =
+    option_map (λ (copy : FirstCopy). copy.pdu) (option_and_then (slice_get sent) (position_of_place sent place))
 
 -- a packet as it is told: its sender, its place, and its PDU where it is a first copy
 pub record IsCrossed (k : Crossing) (place : ℕ) (told : Crossed) : Type 0 where
@@ -32,7 +33,8 @@ IsCrossedAt k place (Some told) = IsCrossed k place told
 
 -- the PDU of the packet at a place, where it is a first copy
 abbrev pub pdu_crossed : Crossing → ℕ → Option RedundancyPdu
-pdu_crossed k place = option_and_then (λ (packet : Packet). pdu_at (sent_by k packet.side) place) (slice_get k.packets place)
+pdu_crossed k place =
+    option_and_then (λ (packet : Packet). pdu_at (sent_by k packet.side) place) (slice_get k.packets place)
 
 abbrev pub opens : Option RedundancyPdu → Bool
 opens None = false

@@ -16,7 +16,8 @@ deadline_by p side (Some confirmed) = option_map (λ (time : ℕ). time + p.t_ma
 deadline_by p side None = option_and_then (λ (q : Quiet). (quiet_of q side).deadline) p.quiet
 
 -- a deadline as it is told of an end that makes a PDU at this clock
-pub record IsMissed (p : Parameters) (side : Side) (clock : ℕ) (confirmed : Option Confirmation) (told : Deadline) : Type 0 where
+pub record IsMissed (p : Parameters) (side : Side) (clock : ℕ) (confirmed : Option Confirmation)
+    (told : Deadline) : Type 0 where
   pub made_at : told.clock ≡ clock
   pub confirmed_time : told.confirmed_time ≡ option_and_then (λ (c : Confirmation). c.time) confirmed
   pub t_max : told.t_max ≡ p.t_max

@@ -34,7 +34,8 @@ pub record IsToldOf (listed : List Listed) (d : Direction) : Type 0 where
 abbrev pub IsSupposed : Parameters → Tape → Supposition → Type 0
 IsSupposed p tape s = (tape.is_kept ≡ true) × IsSupposition p (taped_in tape) s
 
--- the checker has judged each filling, and each message that is counted or told as surely taken is one that was answered so
+-- the checker has judged each filling, and each message that is counted or told as surely taken is one that was
+-- answered so
 pub record IsHypothesis (p : Parameters) (tape : Tape) (h : Hypothesis) : Type 0 where
   pub supposed : IsSupposed p tape h.supposition
   pub client : IsToldOf h.supposition.client.taken.items h.client

@@ -1,5 +1,6 @@
 -- The payload of a datagram, and what the type of its datagram has in its place.
-use Rattle.std.specs.Prelude.{◌≡◌, ℕ, ◌+◌, ◌-◌, ◌<◌, ◌==◌, ◌&&◌, ◌||◌, Bool, true, false, List, [], length, take, slice_range, nat_le, Option, None, Some, option_map, if◌then◌else◌}
+use Rattle.std.specs.Prelude.{◌≡◌, ℕ, ◌+◌, ◌-◌, ◌<◌, ◌==◌, ◌&&◌, ◌||◌, Bool, true, false, List, [], length, take}
+use Rattle.std.specs.Prelude.{slice_range, nat_le, Option, None, Some, option_map, if◌then◌else◌}
 use Rattle.std.specs.Option.{ForSome}
 use Rattle.rasta_pdu.specs.Params.{Parameters}
 use Rattle.rasta_pdu.specs.Pdu.{code_at}
@@ -39,7 +40,8 @@ TellsCut payload (Some c) = IsCutMessage payload c
 
 -- an opening's payload has 14 bytes, of which the first 4 are its version
 abbrev pub version_of : ℕ → List ℕ → Option (List ℕ)
-version_of kind payload = if ((kind == 6200) || (kind == 6201)) && (length payload == 14) then Some (take 4 payload) else None
+version_of kind payload = if ((kind == 6200) || (kind == 6201)) && (length payload == 14) then Some (take 4 payload)
+    else None
 
 -- messages are looked for in data, and in data that is sent again
 abbrev pub TellsMessages : Bool → List ℕ → Option CutMessage → Type 0

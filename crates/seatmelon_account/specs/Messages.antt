@@ -1,7 +1,8 @@
 -- The messages that an end sent, as they are told.
-use Rattle.std.specs.Prelude.{◌≡◌, ℕ, ◌-◌, List, map, length, take, filter_map, flat_map, slice_get, Option, None, Some, is_some, option_map, nat_lt, if◌then◌else◌}
+use Rattle.std.specs.Prelude.{◌≡◌, ℕ, ◌-◌, List, map, length, take, filter_map, flat_map, slice_get, Option, None, Some}
+use Rattle.std.specs.Prelude.{is_some, option_map, nat_lt, if◌then◌else◌}
 use Rattle.rasta_pdu.specs.Pdu.{messages_in}
-use Rattle.rasta_check.specs.Capture.Crossing.{FirstCopy}
+use Rattle.rasta_check.specs.Capture.SentLists.{FirstCopy}
 use Rattle.rasta_check.specs.Model.Taken.{data_copies}
 use Rattle.rasta_check.specs.Verdict.Listed.{ListedMessage}
 use Rattle.seatmelon_account.specs.declared.messages.Direction.{Direction}
@@ -28,7 +29,10 @@ placed_of m = record { data_place = m.data; message = m.bytes.now }
 
 -- what is told as surely taken
 abbrev pub taken_of : Message → Option ListedMessage
-taken_of m = option_map (λ (proof : ℕ). record { number = m.number; data_place = m.data; proof_place = proof; message = m.bytes.now }) m.proof
+taken_of m =
+    option_map
+      (λ (proof : ℕ). record { number = m.number; data_place = m.data; proof_place = proof; message = m.bytes.now })
+      m.proof
 
 -- all that was sent is told, in order, and what is listed is told as surely taken, and nothing else
 pub record AreMessages (sent : List FirstCopy) (listed : List ListedMessage) (messages : List Message) : Type 0 where
@@ -57,7 +61,8 @@ proof_in listed number = option_map (λ (l : ListedMessage). l.proof_place) (sli
 
 -- messages have their numbers, and those that are listed their proofs
 abbrev pub ProvedBy : List ListedMessage → List Message → Type 0
-ProvedBy listed messages = (i : ℕ) (m : Message) → slice_get messages i ≡ Some m → (m.number ≡ i) × (m.proof ≡ proof_in listed i)
+ProvedBy listed messages = (i : ℕ) (m : Message) → slice_get messages i ≡ Some m
+    → (m.number ≡ i) × (m.proof ≡ proof_in listed i)
 
 abbrev pub listed_placed : ListedMessage → Placed
 listed_placed l = record { data_place = l.data_place; message = l.message }

@@ -3,8 +3,8 @@ use Rattle.std.specs.Prelude.{◌≡◌, ◌≢◌, ◌⊎◌, ℕ, List, Option
 use Rattle.rasta_pcap.specs.declared.fault.Side.{Side}
 use Rattle.rasta_pcap.specs.declared.fault.Side.TheVariants.{Client, Server}
 use Rattle.rasta_pdu.specs.Pdu.{SafetyBody, Opening, Bye, Messages, Empty}
-use Rattle.rasta_check.specs.Capture.Crossing.{FirstCopy}
-use Rattle.rasta_check.specs.Capture.Reading.{Crossing}
+use Rattle.rasta_check.specs.Capture.SentLists.{FirstCopy}
+use Rattle.rasta_check.specs.Capture.Crossing.{Crossing}
 use Rattle.seatmelon_account.specs.declared.offers.Offer.{Offer}
 use Rattle.seatmelon_account.specs.declared.offers.Offers.{Offers}
 use Rattle.seatmelon_account.specs.declared.offers.Versions.{Versions}
@@ -40,12 +40,15 @@ version_of sent = version_by (slice_get sent 0)
 -- the offer of an end is told where it isn't what is recorded
 abbrev pub IsOffer : ℕ → Side → List FirstCopy → Option Offer → Type 0
 IsOffer recorded end sent None = (sendmax_of sent ≡ None) ⊎ (sendmax_of sent ≡ Some recorded)
-IsOffer recorded end sent (Some o) = (sendmax_of sent ≡ Some o.offered) × (o.offered ≢ recorded) × (o.recorded ≡ recorded) × (o.end ≡ end)
+IsOffer recorded end sent (Some o) = (sendmax_of sent ≡ Some o.offered) × (o.offered ≢ recorded)
+    × (o.recorded ≡ recorded) × (o.end ≡ end)
 
 -- the versions are told where they differ
 abbrev pub AreVersions : List FirstCopy → List FirstCopy → Option Versions → Type 0
-AreVersions client server None = (version_of client ≡ None) ⊎ ((version_of server ≡ None) ⊎ (version_of client ≡ version_of server))
-AreVersions client server (Some v) = (version_of client ≡ Some v.client) × (version_of server ≡ Some v.server) × (v.client ≢ v.server)
+AreVersions client server None = (version_of client ≡ None)
+    ⊎ ((version_of server ≡ None) ⊎ (version_of client ≡ version_of server))
+AreVersions client server (Some v) = (version_of client ≡ Some v.client) × (version_of server ≡ Some v.server)
+    × (v.client ≢ v.server)
 
 pub record AreOffers (recorded : ℕ) (k : Crossing) (o : Offers) : Type 0 where
   pub client : IsOffer recorded Client k.client o.client

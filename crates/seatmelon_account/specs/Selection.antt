@@ -1,5 +1,6 @@
 -- Which messages a text tells.
-use Rattle.std.specs.Prelude.{ℕ, List, Option, None, Some, Bool, true, false, not, is_some, ◌&&◌, ◌||◌, nat_eq, nat_le, slice_get}
+use Rattle.std.specs.Prelude.{ℕ, List, Option, None, Some, Bool, true, false, not, is_some, ◌&&◌, ◌||◌, nat_eq, nat_le}
+use Rattle.std.specs.Prelude.{slice_get}
 use Rattle.seatmelon_reading.specs.declared.notes.Sighting.{Sighting}
 use Rattle.seatmelon_account.specs.declared.messages.Message.{Message}
 use Rattle.seatmelon_account.specs.declared.selection.Selection.{Selection}
@@ -28,4 +29,5 @@ has_record (Some number) packets m = is_of_record packets m.data number || is_pr
 
 -- the message meets each condition
 abbrev pub is_chosen : Selection → List Sighting → Message → Bool
-is_chosen s packets m = is_within s.numbers m.number && (not (s.not_shown && is_some m.proof) && has_record s.of_record packets m)
+is_chosen s packets m =
+    is_within s.numbers m.number && (not (s.not_shown && is_some m.proof) && has_record s.of_record packets m)

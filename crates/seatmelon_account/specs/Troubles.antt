@@ -1,5 +1,6 @@
 -- What is told to be wrong with the packet of a refused record.
-use Rattle.std.specs.Prelude.{◌≡◌, ℕ, ◌+◌, ◌-◌, ◌==◌, ◌&&◌, ◌||◌, Bool, true, false, List, length, take, slice_range, Option, None, Some, option_map, ⊤}
+use Rattle.std.specs.Prelude.{◌≡◌, ℕ, ◌+◌, ◌-◌, ◌==◌, ◌&&◌, ◌||◌, Bool, true, false, List, length, take, slice_range}
+use Rattle.std.specs.Prelude.{Option, None, Some, option_map, ⊤}
 use Rattle.std.specs.Option.{ForSome}
 use Rattle.rasta_md4.specs.Md4.{md4}
 use Rattle.rasta_pcap.specs.declared.fault.Fault.{Fault}
@@ -7,7 +8,8 @@ use Rattle.rasta_pcap.specs.Fault.{safety_length, too_short, wrong_payload}
 use Rattle.rasta_udp.specs.Frame.{Packet, packet_in}
 use Rattle.rasta_pdu.specs.Params.{Parameters}
 use Rattle.rasta_pdu.specs.Pdu.{check_at, code_at, receiver_of, sender_of}
-use Rattle.rasta_check.specs.Capture.Reading.{Crossing, packet_found, sent_by}
+use Rattle.rasta_check.specs.Capture.Crossing.{Crossing, sent_by}
+use Rattle.rasta_check.specs.Capture.Reading.{packet_found}
 use Rattle.seatmelon_packets.specs.Features.{features_by}
 use Rattle.seatmelon_packets.specs.Trials.{all_trials}
 use Rattle.seatmelon_packets.specs.declared.lengths.Fits.{Fits}
@@ -34,11 +36,12 @@ pub record AreCodes (p : Parameters) (datagram : List ℕ) (codes : Codes) : Typ
   pub found : codes.found.now ≡ slice_range datagram (code_at p datagram) (check_at p datagram)
   pub digest : codes.digest ≡ md4 p.md4_start (slice_range datagram 8 (code_at p datagram))
 
--- the other packet with the same number is told as it was found beside the refused one, with the first bytes in which this
--- datagram differs from it
+-- the other packet with the same number is told as it was found beside the refused one, with the first bytes in which
+-- this datagram differs from it
 abbrev pub TellsOther : CaptureRefusal → List ℕ → Option FirstCopy → Type 0
 TellsOther r datagram None = r.beside ≡ None
-TellsOther r datagram (Some first) = (beside : Beside) × (r.beside ≡ Some beside) × (first.sighting ≡ beside.sighting) × (first.bytes.now ≡ beside.bytes.items)
+TellsOther r datagram (Some first) = (beside : Beside) × (r.beside ≡ Some beside) × (first.sighting ≡ beside.sighting)
+    × (first.bytes.now ≡ beside.bytes.items)
     × (first.differences.items ≡ take 16 (differing 0 datagram beside.bytes.items))
 
 -- what is told of a packet with these parameters, behind what crossed
@@ -46,19 +49,23 @@ abbrev pub TellsTrouble : Parameters → Crossing → CaptureRefusal → Packet 
 TellsTrouble p k r packet (troubles.Gap None) = ⊤
 TellsTrouble p k r packet (troubles.Gap (Some gap)) =
     IsGap (sent_by k packet.side) (has_opening k) packet.payload gap × (gap.later ≡ option_map sighting_beside r.beside)
-TellsTrouble p k r packet (troubles.Code codes first) = ForSome codes (AreCodes p packet.payload) × TellsOther r packet.payload first
+TellsTrouble p k r packet (troubles.Code codes first) = ForSome codes (AreCodes p packet.payload)
+    × TellsOther r packet.payload first
 TellsTrouble p k r packet (troubles.Copy first) = TellsOther r packet.payload first
-TellsTrouble p k r packet (troubles.Ids receiver sender) = (receiver ≡ receiver_of p packet.side) × (sender ≡ sender_of p packet.side)
+TellsTrouble p k r packet (troubles.Ids receiver sender) = (receiver ≡ receiver_of p packet.side)
+    × (sender ≡ sender_of p packet.side)
 TellsTrouble p k r packet (troubles.Length due) = due ≡ length packet.payload
 TellsTrouble p k r packet (troubles.TooShort least) = least ≡ 36 + p.code_length + p.check_length
 TellsTrouble p k r packet (troubles.SafetyLength due) = due ≡ check_at p packet.payload - 8
-TellsTrouble p k r packet (troubles.Type found) = ForSome (field_at 2 10 packet.payload) (λ (number : ℕ). found ≡ number)
+TellsTrouble p k r packet (troubles.Type found) =
+    ForSome (field_at 2 10 packet.payload) (λ (number : ℕ). found ≡ number)
 TellsTrouble p k r packet (troubles.Payload layout) = IsLayout p packet.payload layout
 TellsTrouble p k r packet troubles.Other = ⊤
 
 -- what is wrong with a packet may be that other lengths of the codes were recorded
 abbrev pub may_be_lengths : Fault → Bool
-may_be_lengths fault = (fault.number == too_short) || ((fault.number == safety_length) || (fault.number == wrong_payload))
+may_be_lengths fault =
+    (fault.number == too_short) || ((fault.number == safety_length) || (fault.number == wrong_payload))
 
 abbrev pub fits_of : Features → Fits
 fits_of found = found.fits
@@ -69,7 +76,8 @@ lengths_if true datagram = option_map fits_of (features_by all_trials datagram)
 lengths_if false datagram = None
 
 -- the packet of the refused record is told, if it holds one of the recorded channels
-pub record IsRefusedPacket (p : Parameters) (k : Crossing) (r : CaptureRefusal) (packet : Packet) (told : RefusedPacket) : Type 0 where
+pub record IsRefusedPacket (p : Parameters) (k : Crossing) (r : CaptureRefusal) (packet : Packet)
+    (told : RefusedPacket) : Type 0 where
   pub sender : told.sender ≡ packet.side
   pub channel : told.channel ≡ packet.channel
   pub datagram : told.datagram.now ≡ packet.payload
@@ -82,4 +90,5 @@ packet_refused p r = packet_found (packet_in p.channels r.frame.items)
 
 abbrev pub TellsPacket : Parameters → Crossing → CaptureRefusal → Option RefusedPacket → Type 0
 TellsPacket p k r None = packet_refused p r ≡ None
-TellsPacket p k r (Some told) = (packet : Packet) × (packet_refused p r ≡ Some packet) × IsRefusedPacket p k r packet told
+TellsPacket p k r (Some told) = (packet : Packet) × (packet_refused p r ≡ Some packet)
+    × IsRefusedPacket p k r packet told

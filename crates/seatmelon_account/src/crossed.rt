@@ -1,7 +1,7 @@
 //! Packets that crossed.
 ghost use Rattle.std.specs.Prelude.{◌≡◌, option_map};
 ghost use Rattle.rasta_pdu.specs.Pdu.{value_of};
-ghost use Rattle.rasta_check.specs.Capture.Reading.{sent_by};
+ghost use Rattle.rasta_check.specs.Capture.Crossing.{sent_by};
 ghost use Rattle.seatmelon_account.specs.Crossed.{IsCrossedAt, has_opening, pdu_at};
 
 use rasta_check::{SentList, SpanList, Store};

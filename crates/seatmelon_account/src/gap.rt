@@ -1,6 +1,6 @@
 //! A gap in the redundancy numbers of an end.
 ghost use Rattle.std.specs.Prelude.{◌≡◌, IfSome};
-ghost use Rattle.rasta_check.specs.Capture.Reading.{sent_by};
+ghost use Rattle.rasta_check.specs.Capture.Crossing.{sent_by};
 ghost use Rattle.seatmelon_account.specs.Crossed.{has_opening};
 ghost use Rattle.seatmelon_account.specs.Gaps.{IsGap, IsLastOf};
 

@@ -8,7 +8,8 @@ use Rattle.rasta_pdu.specs.Params.{Parameters}
 use Rattle.rasta_cert.specs.Certificate.{Scripts}
 use Rattle.rasta_build.proofs.Answering.{answer_fault, answer_fits}
 use Rattle.rasta_check.specs.Capture.Building.{crossed_in}
-use Rattle.rasta_check.specs.Capture.Reading.{AreSentLists, Crossing, IsCrossing, crossing_of}
+use Rattle.rasta_check.specs.Capture.Crossing.{AreSentLists, Crossing, IsCrossing}
+use Rattle.rasta_check.specs.Capture.Reading.{crossing_of}
 use Rattle.rasta_check.specs.Verdict.Report.{BothFit, IsScriptVerdict, both_fit, report_of}
 use Rattle.rasta_check.specs.Verdict.Report as reports
 use Rattle.rasta_check.proofs.Script.Fits.{one_answer}

@@ -6,8 +6,8 @@ use Rattle.rasta_pdu.specs.declared.kind.Kind.TheVariants.{Data}
 use Rattle.rasta_pdu.specs.Messages.{after_message, first_message, has_message, messages_of, messages_up_to}
 use Rattle.rasta_pdu.specs.Params.{Parameters}
 use Rattle.rasta_pdu.specs.Pdu.{Bye, Empty, Messages, Opening, SafetyBody, is_kind, messages_in, payload_of}
-use Rattle.rasta_check.specs.Capture.Crossing.{FirstCopy, Sent}
-use Rattle.rasta_check.specs.Capture.Reading.{Crossing, IsCrossing}
+use Rattle.rasta_check.specs.Capture.SentLists.{FirstCopy, Sent}
+use Rattle.rasta_check.specs.Capture.Crossing.{Crossing, IsCrossing}
 use Rattle.rasta_check.specs.Model.Taken.{data_copies}
 use Rattle.rasta_check.proofs.Verdict.ListSteps.{left_at}
 use Rattle.seatmelon_audit.specs.Messages as sent

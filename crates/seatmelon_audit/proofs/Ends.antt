@@ -7,7 +7,8 @@ use Rattle.rasta_pcap.specs.declared.fault.Fault.{Fault}
 use Rattle.rasta_pcap.specs.Captured.{Captured}
 use Rattle.rasta_pdu.specs.Params.{Parameters}
 use Rattle.rasta_check.specs.Capture.Building.{crossed_in}
-use Rattle.rasta_check.specs.Capture.Reading.{Crossing, and_then, at_end}
+use Rattle.rasta_check.specs.Capture.Crossing.{Crossing}
+use Rattle.rasta_check.specs.Capture.Reading.{then_crossing, at_end}
 use Rattle.rasta_check.specs.declared.store_builder.StoreBuilder.{StoreBuilder}
 use Rattle.seatmelon_audit.specs.Ends.{EndsBy, IsFaultAfter, crossed_to_end, fault_behind}
 use Rattle.seatmelon_audit.specs.Records.{IsStanding, crossed_by, subject_at, subject_behind, subject_of}
@@ -44,18 +45,18 @@ module _ (p : Parameters) (records : List Captured) (fault : Fault) (after : IsF
   stays : (s : Standing) (k : Crossing) (packets : List Stamp) → (s ≡ Reading → p.last_record < fault.place)
       → IsStanding s (crossed_by p records) records p k packets → IsStanding s (crossed_to_end p records (Some fault)) records p k packets
   stays Reading k packets behind h = (
-    ap (λ (s : Outcome). and_then s (λ (m : Crossing). at_end m (fault_behind p records (Some fault)))) h.0
+    ap (λ (s : Outcome). then_crossing s (λ (m : Crossing). at_end m (fault_behind p records (Some fault)))) h.0
         ∙ ap (λ (b : Bool). at_end k (cond b (Some fault) None)) (behind_by after (behind refl)),
     h.1,
   )
-  stays (Refused refusal) k packets behind h = (ap (λ (s : Outcome). and_then s (λ (m : Crossing). at_end m (fault_behind p records (Some fault)))) h.0, h.1)
+  stays (Refused refusal) k packets behind h = (ap (λ (s : Outcome). then_crossing s (λ (m : Crossing). at_end m (fault_behind p records (Some fault)))) h.0, h.1)
   stays OutOfMemory k packets behind h = tt
 
   refuses : (subject : Option Subject) (k : Crossing) (packets : List Stamp) → fault.place ≤ p.last_record → subject ≡ subject_behind fault.place
       → IsStanding Reading (crossed_by p records) records p k packets
       → IsStanding (Refused (record { fault = fault; subject = subject })) (crossed_to_end p records (Some fault)) records p k packets
   refuses subject k packets inside names h = (
-    ap (λ (s : Outcome). and_then s (λ (m : Crossing). at_end m (fault_behind p records (Some fault)))) h.0
+    ap (λ (s : Outcome). then_crossing s (λ (m : Crossing). at_end m (fault_behind p records (Some fault)))) h.0
         ∙ ap (λ (b : Bool). at_end k (cond b (Some fault) None)) (inside_by after inside),
     names ∙ subject_by after,
   )

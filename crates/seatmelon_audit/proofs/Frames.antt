@@ -10,7 +10,7 @@ use Rattle.rasta_pcap.specs.Fault.{bad_udp, cut_packet, fault_at, fragment}
 use Rattle.rasta_pcap.specs.declared.fault.Fault.{Fault}
 use Rattle.rasta_udp.specs.declared.channel.Channel.{Channel}
 use Rattle.rasta_udp.specs.declared.channel.Endpoint.{Endpoint}
-use Rattle.rasta_udp.specs.Frame.{Direction, Fields, Found, address_of, datagram_of, direction_of, directions_from, fields_of, found_by, found_in, has_addresses, has_known_addresses, is_tagged, map_found, moved_on, number_at, packet_at, packet_in, untagged_of, without_tag}
+use Rattle.rasta_udp.specs.Frame.{Direction, Fields, Found, address_of, datagram_of, direction_of, directions_from, fields_of, found_by, found_in, has_addresses, has_known_addresses, is_tagged, map_found, moved_on, big_at, packet_at, packet_in, untagged_of, without_tag}
 use Rattle.seatmelon_audit.specs.Hosts.{hosts_between, hosts_in, hosts_of, read_from}
 
 -- ---- a tagged frame is read 4 bytes on
@@ -28,8 +28,8 @@ module _ (f : List ℕ) (whole : 16 ≤ length f) where
       sym (drop-drop k 12 (without_tag f)) ∙ ap (drop k) (drop_at (take 12 f) (drop 16 f) 12 front)
       ∙ drop-drop k 16 f ∙ ap (λ n. drop n f) shift ∙ sym (drop-drop (12 + k) 4 f)
 
-  number_after : (m k : ℕ) → number_at m (12 + k) (without_tag f) ≡ number_at m (12 + k) (drop 4 f)
-  unfolding number_at
+  number_after : (m k : ℕ) → big_at m (12 + k) (without_tag f) ≡ big_at m (12 + k) (drop 4 f)
+  unfolding big_at
   number_after m k = ap (big_number m) (drop-without_tag k)
 
   length-without_tag : length (without_tag f) ≡ length (drop 4 f)
@@ -38,8 +38,8 @@ module _ (f : List ℕ) (whole : 16 ≤ length f) where
   hosts_after : hosts_in (fields_of (without_tag f)) ≡ hosts_in (fields_of (drop 4 f))
   hosts_after =
       let size : length (without_tag f) ≡ length (drop 4 f) = length-without_tag in
-      let source : number_at 4 26 (without_tag f) ≡ number_at 4 26 (drop 4 f) = number_after 4 14 in
-      let destination : number_at 4 30 (without_tag f) ≡ number_at 4 30 (drop 4 f) = number_after 4 18 in
+      let source : big_at 4 26 (without_tag f) ≡ big_at 4 26 (drop 4 f) = number_after 4 14 in
+      let destination : big_at 4 30 (without_tag f) ≡ big_at 4 30 (drop 4 f) = number_after 4 18 in
       cc
 
 pub hosts_tagged : (f : List ℕ) → is_tagged f ≡ true → hosts_in (fields_of (drop 4 f)) ≡ hosts_of f

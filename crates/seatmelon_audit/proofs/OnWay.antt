@@ -5,7 +5,7 @@ use Rattle.rasta_pcap.specs.declared.fault.Fault.{Fault}
 use Rattle.rasta_pcap.specs.declared.pcap.Endianness.{Endianness}
 use Rattle.rasta_pcap.specs.declared.time.CaptureTime.{CaptureTime}
 use Rattle.rasta_pcap.specs.declared.time.FractionUnit.{FractionUnit}
-use Rattle.rasta_pcap.specs.Capture.{Cursor, Numbered, cursor_after, cursor_at, max_records, next, opening, reading, reading_of}
+use Rattle.rasta_pcap.specs.Capture.{FileCursor, Numbered, cursor_after, cursor_at, max_records, next, opening, reading, reading_of}
 use Rattle.rasta_pcap.specs.Capture as captures
 use Rattle.rasta_pcap.specs.Captured.{Captured, captured_at, captured_from, captured_in}
 use Rattle.rasta_pcap.specs.Times.{unit_of}
@@ -18,11 +18,11 @@ pub record IsWhole (file : List ℕ) (done : List Captured) (last : Option Fault
   pub captured : done ≡ captured_in file
   pub fault : last ≡ (reading_of max_records file).fault
 
-abbrev fault_left : ℕ → Cursor → Option Fault
+abbrev fault_left : ℕ → FileCursor → Option Fault
 fault_left left c = (reading left c).fault
 
 -- at the end no fault is left
-no_fault_left : (left : ℕ) (c : Cursor) → next c ≡ Ok None → fault_left left c ≡ None
+no_fault_left : (left : ℕ) (c : FileCursor) → next c ≡ Ok None → fault_left left c ≡ None
 no_fault_left zero c is = ap (λ (g : captures.Reading). g.fault) (reading-none_left c)
 no_fault_left (suc left) c is = ap (λ (g : captures.Reading). g.fault) (reading-end left c is)
 

@@ -11,7 +11,8 @@ use Rattle.rasta_pcap.specs.declared.time.CaptureTime.{CaptureTime}
 use Rattle.rasta_pcap.specs.Capture.{Numbered}
 use Rattle.rasta_pcap.specs.Captured.{Captured, numbered}
 use Rattle.rasta_pdu.specs.Params.{Parameters}
-use Rattle.rasta_check.specs.Capture.Reading.{Crossing, after_record, after_records, and_then, nothing_crossed, packet_at}
+use Rattle.rasta_check.specs.Capture.Crossing.{Crossing, nothing_crossed}
+use Rattle.rasta_check.specs.Capture.Reading.{after_record, after_records, then_crossing, packet_at}
 use Rattle.rasta_check.proofs.Lists.{get_next, slice_get_some}
 use Rattle.rasta_check.specs.declared.store_builder.StoreBuilder.{StoreBuilder}
 use Rattle.seatmelon_reading.proofs.Told.{record_place}
@@ -28,17 +29,17 @@ Outcome = Result Crossing Fault
 
 -- ---- what crosses by one record more
 
-ok_then : (s : Outcome) → and_then s (λ (n : Crossing). Ok n) ≡ s
+ok_then : (s : Outcome) → then_crossing s (λ (n : Crossing). Ok n) ≡ s
 ok_then (Ok k) = refl
 ok_then (Err f) = refl
 
 then_then : (s : Outcome) (xs : List Numbered) (r : Numbered)
-    → ((n : Crossing) → after_records n (xs ++ r ∷ []) None ≡ and_then (after_records n xs None) (λ (m : Crossing). after_record m r))
-    → and_then s (λ (n : Crossing). after_records n (xs ++ r ∷ []) None) ≡ and_then (and_then s (λ (n : Crossing). after_records n xs None)) (λ (m : Crossing). after_record m r)
+    → ((n : Crossing) → after_records n (xs ++ r ∷ []) None ≡ then_crossing (after_records n xs None) (λ (m : Crossing). after_record m r))
+    → then_crossing s (λ (n : Crossing). after_records n (xs ++ r ∷ []) None) ≡ then_crossing (then_crossing s (λ (n : Crossing). after_records n xs None)) (λ (m : Crossing). after_record m r)
 then_then (Ok k) xs r h = h k
 then_then (Err f) xs r h = refl
 
-records_push : (xs : List Numbered) (r : Numbered) (k : Crossing) → after_records k (xs ++ r ∷ []) None ≡ and_then (after_records k xs None) (λ (n : Crossing). after_record n r)
+records_push : (xs : List Numbered) (r : Numbered) (k : Crossing) → after_records k (xs ++ r ∷ []) None ≡ then_crossing (after_records k xs None) (λ (n : Crossing). after_record n r)
 unfolding after_records
 records_push [] r k = ok_then (after_record k r)
 records_push (x ∷ xs) r k = then_then (after_record k x) xs r (records_push xs r)
@@ -56,13 +57,13 @@ module _ (p : Parameters) (records : List Captured) (q : Captured) (next : q.num
   abbrev all : List Captured
   all = records ++ q ∷ []
 
-  pub crossed_inside : q.number ≤ p.last_record → crossed_by p all ≡ and_then (crossed_by p records) (λ (n : Crossing). after_record n (numbered q))
+  pub crossed_inside : q.number ≤ p.last_record → crossed_by p all ≡ then_crossing (crossed_by p records) (λ (n : Crossing). after_record n (numbered q))
   crossed_inside inside =
       let size = length_push records q in
       ap (λ l. after_records (nothing_crossed p) (map numbered l) None) (take_all p.last_record all (omega (arith, next, inside, size)))
       ∙ ap (λ l. after_records (nothing_crossed p) l None) (map-append numbered records (q ∷ []))
       ∙ records_push (map numbered records) (numbered q) (nothing_crossed p)
-      ∙ ap (λ l. and_then (after_records (nothing_crossed p) (map numbered l) None) (λ (n : Crossing). after_record n (numbered q)))
+      ∙ ap (λ l. then_crossing (after_records (nothing_crossed p) (map numbered l) None) (λ (n : Crossing). after_record n (numbered q)))
       (sym (take_all p.last_record records (omega (arith, next, inside))))
 
   pub crossed_behind : p.last_record < q.number → crossed_by p all ≡ crossed_by p records
@@ -108,12 +109,12 @@ module _ (p : Parameters) (records : List Captured) (q : Captured) (next : q.num
   pub judged_standing : (s : Standing) (k n : Crossing) (old new : List Stamp) (time : Option CaptureTime) → time ≡ Some q.time → q.number ≤ p.last_record
       → IsJudgedSo s p k n old new (numbered q) time → IsStanding Reading (crossed_by p records) records p k old → IsStanding s (crossed_by p all) all p n new
   judged_standing Reading k n old new time timed inside judged h = (
-    crossed_inside inside ∙ ap (λ (s : Outcome). and_then s (λ (m : Crossing). after_record m (numbered q))) h.0 ∙ judged.0,
+    crossed_inside inside ∙ ap (λ (s : Outcome). then_crossing s (λ (m : Crossing). after_record m (numbered q))) h.0 ∙ judged.0,
     judged.1 q.time timed ∙ ap (λ l. l ++ stamps_at p (numbered q) q.time) h.1 ∙ sym (stamps_inside inside),
   )
   judged_standing (Refused refusal) k n old new time timed inside judged h =
       let place : refusal.fault.place ≡ suc (length records) = record_place k (numbered q) refusal.fault judged.0 ∙ next in (
-        crossed_inside inside ∙ ap (λ (s : Outcome). and_then s (λ (m : Crossing). after_record m (numbered q))) h.0 ∙ judged.0,
+        crossed_inside inside ∙ ap (λ (s : Outcome). then_crossing s (λ (m : Crossing). after_record m (numbered q))) h.0 ∙ judged.0,
         judged.1 ∙ ap (λ t. Some (subject_at q.number t)) timed ∙ ap (λ m. Some (subject_at m (Some q.time))) next ∙ sym subject_new ∙ ap (subject_of all) (sym place),
       )
   judged_standing OutOfMemory k n old new time timed inside judged h = tt
@@ -129,7 +130,7 @@ module _ (p : Parameters) (records : List Captured) (q : Captured) (next : q.num
   -- ---- a record that changes nothing
 
   refused_by : (f : Fault) → crossed_by p records ≡ Err f → (q.number ≤ p.last_record) ⊎ (p.last_record < q.number) → crossed_by p all ≡ Err f
-  refused_by f e (inl inside) = crossed_inside inside ∙ ap (λ (s : Outcome). and_then s (λ (m : Crossing). after_record m (numbered q))) e
+  refused_by f e (inl inside) = crossed_inside inside ∙ ap (λ (s : Outcome). then_crossing s (λ (m : Crossing). after_record m (numbered q))) e
   refused_by f e (inr behind) = crossed_behind behind ∙ e
 
   by_test : (t : Bool) → leb q.number p.last_record ≡ t → (q.number ≤ p.last_record) ⊎ (p.last_record < q.number)

@@ -11,7 +11,8 @@ use Rattle.rasta_pcap.specs.Captured.{Captured, numbered}
 use Rattle.rasta_udp.specs.Frame.{Packet, packet_in}
 use Rattle.rasta_pdu.specs.Params.{Parameters}
 use Rattle.rasta_check.specs.Capture.Building.{crossed_in}
-use Rattle.rasta_check.specs.Capture.Reading.{Crossing, after_frame, after_record, and_then, packet_found}
+use Rattle.rasta_check.specs.Capture.Crossing.{Crossing}
+use Rattle.rasta_check.specs.Capture.Reading.{after_frame, after_record, then_crossing, packet_found}
 use Rattle.rasta_check.proofs.Lists.{map_at}
 use Rattle.seatmelon_audit.specs.Lines.{AllBetween, AllTakeIn, AreBetween, AreLines, HaveTaken, IsBetween, IsLine, IsStep, IsStepAt, params_of}
 use Rattle.seatmelon_audit.specs.Ways.{IsNamed, NamesAll}
@@ -104,7 +105,7 @@ foreign_line l records q next none h =
     line_same l records q next
     (λ e. ⊎_elim
     (λ (behind : p.last_record < q.number). crossed_behind p records q next behind ∙ e)
-    (λ (inside : q.number ≤ p.last_record). crossed_inside p records q next inside ∙ ap (λ (s : Outcome). and_then s (λ (m : Crossing). after_record m (numbered q))) e
+    (λ (inside : q.number ≤ p.last_record). crossed_inside p records q next inside ∙ ap (λ (s : Outcome). then_crossing s (λ (m : Crossing). after_record m (numbered q))) e
     ∙ foreign_record k p q l.recorded none)
     (less_or_not p.last_record q.number))
     (and_false _ _ (none_found (nat_lt q.number p.first_record) (packet_in p.channels q.bytes) none)) h

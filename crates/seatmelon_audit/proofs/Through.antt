@@ -4,7 +4,8 @@ use Rattle.rasta_pcap.specs.declared.fault.Fault.{Fault}
 use Rattle.rasta_pcap.specs.Captured.{Captured, captured_in}
 use Rattle.rasta_pdu.specs.Params.{Parameters}
 use Rattle.rasta_check.specs.Capture.Building.{crossed_in}
-use Rattle.rasta_check.specs.Capture.Reading.{Crossing, and_then, at_end}
+use Rattle.rasta_check.specs.Capture.Crossing.{Crossing}
+use Rattle.rasta_check.specs.Capture.Reading.{then_crossing, at_end}
 use Rattle.seatmelon_audit.specs.Ends.{AreEnded, crossed_to_end, fault_behind}
 use Rattle.seatmelon_audit.specs.Files.{AreThrough, StandsThrough}
 use Rattle.seatmelon_audit.specs.Lines.{AreLines}
@@ -24,7 +25,7 @@ ends_well : (b : Bool) (k : Crossing) → at_end k (cond b None None) ≡ Ok k
 ends_well true k = refl
 ends_well false k = refl
 
-unended : (p : Parameters) (records : List Captured) (s : Outcome) → and_then s (λ (k : Crossing). at_end k (fault_behind p records None)) ≡ s
+unended : (p : Parameters) (records : List Captured) (s : Outcome) → then_crossing s (λ (k : Crossing). at_end k (fault_behind p records None)) ≡ s
 unended p records (Ok k) = ends_well (nat_lt (length records) p.last_record) k
 unended p records (Err f) = refl
 

@@ -1,5 +1,6 @@
 -- What becomes of a connection.
-use Rattle.std.specs.Prelude.{◌≡◌, ◌≢◌, ◌↔◌, ⊤, ℕ, ◌-◌, ◌<◌, ◌++◌, take, List, [], length, map, slice_get, nat_eq, if◌then◌else◌, Option, None, Some, option_map, Ok, Err}
+use Rattle.std.specs.Prelude.{◌≡◌, ◌≢◌, ◌↔◌, ⊤, ℕ, ◌-◌, ◌<◌, ◌++◌, take, List, [], length, map, slice_get, nat_eq}
+use Rattle.std.specs.Prelude.{if◌then◌else◌, Option, None, Some, option_map, Ok, Err}
 use Rattle.rasta_pcap.specs.declared.fault.Fault.{Fault}
 use Rattle.rasta_pcap.specs.Captured.{captured_in}
 use Rattle.rasta_pcap.specs.Fault.{fault_at, no_memory, not_found}
@@ -7,7 +8,8 @@ use Rattle.rasta_udp.specs.Frame.{Packet}
 use Rattle.rasta_pdu.specs.Params.{Parameters}
 use Rattle.rasta_build.specs.Completeness.{CanCross}
 use Rattle.rasta_cert.specs.Certificate.{IsCertificate, Scripts}
-use Rattle.rasta_check.specs.Capture.Reading.{Crossing, crossing_of}
+use Rattle.rasta_check.specs.Capture.Crossing.{Crossing}
+use Rattle.rasta_check.specs.Capture.Reading.{crossing_of}
 use Rattle.rasta_check.specs.Verdict.Report.{IsScriptVerdict}
 use Rattle.rasta_check.specs.Verdict.Report as reports
 use Rattle.rasta_verdict.specs.Given.{IsUnscripted}
@@ -22,8 +24,8 @@ use Rattle.seatmelon_audit.specs.declared.line.Refusal.{Refusal}
 use Rattle.seatmelon_audit.specs.declared.line.Stamp.{Stamp}
 use Rattle.seatmelon_audit.specs.declared.line.Subject.{Subject}
 
--- how many packets crossed, and what was conveyed both ways: `server_taken` lists messages of the client, and `client_taken` those
--- of the server
+-- how many packets crossed, and what was conveyed both ways: `server_taken` lists messages of the client, and
+-- `client_taken` those of the server
 pub record AreCounts (k : Crossing) (report : reports.Explained) (e : Explained) : Type 0 where
   pub packets : e.packets ≡ length k.packets
   pub client : IsConveyed k.client report.server_taken e.client
@@ -37,8 +39,9 @@ pub record IsExplained (k : Crossing) (e : Explained) : Type 0 where
   pub verdict : IsScriptVerdict k.params (length k.packets) k.client k.server scripts (Ok report)
   pub counts : AreCounts k report e
 
--- The verdict on what crossed, for which a certificate is proposed, refuses it at a place, counted from 1: none is found. No run of two
--- ends within the limits sends packets that begin with those up to there, and some run sends exactly those before it.
+-- The verdict on what crossed, for which a certificate is proposed, refuses it at a place, counted from 1: none is
+-- found. No run of two ends within the limits sends packets that begin with those up to there, and some run sends
+-- exactly those before it.
 pub record IsUnexplained (k : Crossing) (fault : Fault) : Type 0 where
   pub place : ℕ
   pub found_none : fault ≡ fault_at not_found place
@@ -48,7 +51,8 @@ pub record IsUnexplained (k : Crossing) (fault : Fault) : Type 0 where
 
 -- the record that holds the packet at a place, counted from 1; none if there is no packet
 abbrev pub subject_holding : List Stamp → ℕ → Option Subject
-subject_holding packets place = if nat_eq place 0 then None else option_map (λ (s : Stamp). subject_at s.«record» (Some s.time)) (slice_get packets (place - 1))
+subject_holding packets place = if nat_eq place 0 then None
+    else option_map (λ (s : Stamp). subject_at s.«record» (Some s.time)) (slice_get packets (place - 1))
 
 -- the records that hold the packets of a connection
 abbrev pub packets_in : Parameters → List ℕ → List Stamp
@@ -56,7 +60,8 @@ packets_in p file = map stamp_of (holding p (captured_in file))
 
 -- the capture is refused, or what crossed by it
 pub data IsRefusal (p : Parameters) (file : List ℕ) (refusal : Refusal) : Type 0 where
-  capture_refused : crossing_of p file ≡ Err refusal.fault → refusal.subject ≡ subject_of (captured_in file) refusal.fault.place → IsRefusal p file refusal
+  capture_refused : crossing_of p file ≡ Err refusal.fault
+      → refusal.subject ≡ subject_of (captured_in file) refusal.fault.place → IsRefusal p file refusal
   unexplained : (k : Crossing) → crossing_of p file ≡ Ok k → IsUnexplained k refusal.fault
       → refusal.subject ≡ subject_holding (packets_in p file) refusal.fault.place → IsRefusal p file refusal
 
@@ -72,14 +77,16 @@ IsAnswer p file answers.OutOfMemory = ⊤
 -- a refusal by this fault, which names the packet at its place
 abbrev pub RefusesBy : Fault → List Stamp → Answer → Type 0
 RefusesBy fault packets answers.NoPackets = ⊥
-RefusesBy fault packets (answers.Refused refusal) = (fault ≢ no_memory) × (refusal.fault ≡ fault) × (refusal.subject ≡ subject_holding packets fault.place)
+RefusesBy fault packets (answers.Refused refusal) = (fault ≢ no_memory) × (refusal.fault ≡ fault)
+    × (refusal.subject ≡ subject_holding packets fault.place)
 RefusesBy fault packets (answers.Explained e) = ⊥
 RefusesBy fault packets answers.OutOfMemory = ⊤
 
 -- this becomes of what crossed, by packets that these records hold
 abbrev pub IsAnswerOn : Crossing → List Stamp → Answer → Type 0
 IsAnswerOn k packets answers.NoPackets = k.packets ≡ []
-IsAnswerOn k packets (answers.Refused refusal) = IsUnexplained k refusal.fault × (refusal.subject ≡ subject_holding packets refusal.fault.place)
+IsAnswerOn k packets (answers.Refused refusal) = IsUnexplained k refusal.fault
+    × (refusal.subject ≡ subject_holding packets refusal.fault.place)
 IsAnswerOn k packets (answers.Explained e) = IsExplained k e
 IsAnswerOn k packets answers.OutOfMemory = ⊤
 

@@ -13,8 +13,8 @@ use Rattle.seatmelon_audit.specs.declared.answer.Answer.{Answer}
 use Rattle.seatmelon_audit.specs.declared.answer.Answer.TheVariants as answers
 use Rattle.seatmelon_audit.specs.declared.answer.Audit.{Audit}
 
--- this becomes of each connection, in their order; how many records the file has, how many of them are of none of the connections, and
--- the fault that ends them
+-- this becomes of each connection, in their order; how many records the file has, how many of them are of none of the
+-- connections, and the fault that ends them
 pub record AreAudits (recorded : List Parameters) (file : List ℕ) (a : Audit) : Type 0 where
   pub answers : AllZip (λ p answer. IsAnswer p file answer) recorded a.answers.items
   pub records : a.records ≡ length (captured_in file)
@@ -24,6 +24,7 @@ pub record AreAudits (recorded : List Parameters) (file : List ℕ) (a : Audit) 
 -- what `audit` would write and answer for a connection alone: a text and a status of the capture, which decide of it
 abbrev pub IsAuditedAs : Parameters → List ℕ → Answer → Type 0
 IsAuditedAs p file answers.NoPackets = (text : List ℕ) × (status : ℕ) × IsAudit p file text status
-IsAuditedAs p file (answers.Refused refusal) = IsAudit p file (refused_line refusal.fault) 1 × Decides p file (refused_line refusal.fault) 1
+IsAuditedAs p file (answers.Refused refusal) = IsAudit p file (refused_line refusal.fault) 1
+    × Decides p file (refused_line refusal.fault) 1
 IsAuditedAs p file (answers.Explained e) = (text : List ℕ) × IsAudit p file text 0
 IsAuditedAs p file answers.OutOfMemory = ⊤

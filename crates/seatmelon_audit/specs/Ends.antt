@@ -1,10 +1,12 @@
 -- A connection where the reading of a file ends in a fault.
-use Rattle.std.specs.Prelude.{◌≡◌, ◌⊎◌, ◌<◌, ◌≤◌, ℕ, suc, List, [], length, nat_lt, slice_index_or, if◌then◌else◌, Option, None, Some, Result}
+use Rattle.std.specs.Prelude.{◌≡◌, ◌⊎◌, ◌<◌, ◌≤◌, ℕ, suc, List, [], length, nat_lt, slice_index_or, if◌then◌else◌}
+use Rattle.std.specs.Prelude.{Option, None, Some, Result}
 use Rattle.rasta_pcap.specs.declared.fault.Fault.{Fault}
 use Rattle.rasta_pcap.specs.Captured.{Captured}
 use Rattle.rasta_pdu.specs.Params.{Parameters}
 use Rattle.rasta_check.specs.Capture.Building.{crossed_in}
-use Rattle.rasta_check.specs.Capture.Reading.{Crossing, and_then, at_end}
+use Rattle.rasta_check.specs.Capture.Crossing.{Crossing}
+use Rattle.rasta_check.specs.Capture.Reading.{then_crossing, at_end}
 use Rattle.seatmelon_audit.specs.Lines.{AreLines, IsChangedAt, IsLine, params_of}
 use Rattle.seatmelon_audit.specs.Records.{IsStanding, crossed_by}
 use Rattle.seatmelon_audit.specs.declared.line.Line.{Line}
@@ -19,23 +21,27 @@ fault_behind p records fault = if nat_lt (length records) p.last_record then fau
 
 -- what crossed by these records and the fault that ended them
 abbrev pub crossed_to_end : Parameters → List Captured → Option Fault → Result Crossing Fault
-crossed_to_end p records fault = and_then (crossed_by p records) (λ (k : Crossing). at_end k (fault_behind p records fault))
+crossed_to_end p records fault =
+    then_crossing (crossed_by p records) (λ (k : Crossing). at_end k (fault_behind p records fault))
 
 -- what stood as the records say stands as the records and the fault say
 abbrev pub EndsBy : Line → Line → Fault → Type 0
 EndsBy old new fault = (records : List Captured) → IsFaultAfter records fault → IsLine records old
-    → IsStanding new.standing (crossed_to_end old.params records (Some fault)) records old.params (crossed_in new.builder) new.packets.items
+    → IsStanding new.standing (crossed_to_end old.params records (Some fault)) records old.params
+      (crossed_in new.builder) new.packets.items
 
 -- ---- all connections
 
 -- each connection stands as the records and the fault say
 abbrev pub AreEnded : List Captured → Fault → List Line → Type 0
 AreEnded records fault lines = (i : ℕ) (d : Line) → i < length lines → (let l = slice_index_or lines i d in
-    IsStanding l.standing (crossed_to_end l.params records (Some fault)) records l.params (crossed_in l.builder) l.packets.items)
+    IsStanding l.standing (crossed_to_end l.params records (Some fault)) records l.params
+      (crossed_in l.builder) l.packets.items)
 
 -- what stood as the records say stands as the records and the fault say
 abbrev pub AllEnd : List Line → List Line → Fault → Type 0
-AllEnd old new fault = (records : List Captured) → IsFaultAfter records fault → AreLines records old → AreEnded records fault new
+AllEnd old new fault = (records : List Captured) → IsFaultAfter records fault → AreLines records old
+    → AreEnded records fault new
 
 -- ---- while the connections take in the fault
 
@@ -50,5 +56,6 @@ IsEndAt place old new fault = IsChangedAt (IsEnd fault) place old new
 -- those below this place have taken it in, and the others not yet
 pub record AreEndedBelow (place : ℕ) (old new : List Line) (fault : Fault) : Type 0 where
   pub params : params_of new ≡ params_of old
-  pub ended : (i : ℕ) (d : Line) → i < place → i < length old → EndsBy (slice_index_or old i d) (slice_index_or new i d) fault
+  pub ended : (i : ℕ) (d : Line) → i < place → i < length old
+      → EndsBy (slice_index_or old i d) (slice_index_or new i d) fault
   pub same : (i : ℕ) (d : Line) → place ≤ i → slice_index_or new i d ≡ slice_index_or old i d

@@ -1,5 +1,5 @@
--- A known file on its way, and at its end. None of this speaks of how many connections there are: `AreLines done` says what each
--- stands at, and `crossing_whole` (proofs/Files.antt) leads from there to `crossing_of` of each.
+-- A known file on its way, and at its end. None of this speaks of how many connections there are: `AreLines done` says
+-- what each stands at, and `crossing_whole` (proofs/Files.antt) leads from there to `crossing_of` of each.
 use Rattle.std.specs.Prelude.{◌≡◌, ℕ, ◌-◌, List, ◌++◌, length, slice_index_or, ◌<◌, Option, Some}
 use Rattle.rasta_pcap.specs.declared.pcap.Endianness.{Endianness}
 use Rattle.rasta_pcap.specs.declared.stream.RecordReader.{RecordReader}
@@ -13,20 +13,23 @@ use Rattle.seatmelon_audit.specs.Records.{IsStanding}
 use Rattle.seatmelon_audit.specs.declared.line.Line.{Line}
 
 -- the records so far, and those that are left, are those of the file, and its fault is that of what is left
-pub record IsOnWay (file : List ℕ) (order : Endianness) (unit : FractionUnit) (count : ℕ) (rest : List ℕ) (done : List Captured) : Type 0 where
+pub record IsOnWay (file : List ℕ) (order : Endianness) (unit : FractionUnit) (count : ℕ) (rest : List ℕ)
+    (done : List Captured) : Type 0 where
   pub counted : length done ≡ count
   pub captured : done ++ captured_from (max_records - count) unit (cursor_at order rest count) ≡ captured_in file
   pub fault : (reading (max_records - count) (cursor_at order rest count)).fault ≡ (reading_of max_records file).fault
 
 -- the input is known, and a reader stands so on the way
-pub record ReaderOnWay (file : List ℕ) (records : RecordReader) (input : Option (List ℕ)) (done : List Captured) : Type 0 where
+pub record ReaderOnWay (file : List ℕ) (records : RecordReader) (input : Option (List ℕ))
+    (done : List Captured) : Type 0 where
   pub rest : List ℕ
   pub known : input ≡ Some rest
   pub on_way : IsOnWay file (order_in records) (unit_in records) (count_in records) rest done
 
 -- a connection stands as an audit of the file for it alone has it
 abbrev pub StandsThrough : List ℕ → Line → Type 0
-StandsThrough file l = IsStanding l.standing (crossing_of l.params file) (captured_in file) l.params (crossed_in l.builder) l.packets.items
+StandsThrough file l =
+    IsStanding l.standing (crossing_of l.params file) (captured_in file) l.params (crossed_in l.builder) l.packets.items
 
 -- at the end each one does
 abbrev pub AreThrough : List ℕ → List Line → Type 0

@@ -1,5 +1,6 @@
 -- A connection on its way through the records of a capture.
-use Rattle.std.specs.Prelude.{◌≡◌, ⊤, ◌⊎◌, ◌<◌, ◌≤◌, ℕ, suc, Bool, true, false, List, [], ◌∷◌, ◌++◌, ◌||◌, length, map, slice_get, slice_index_or, slice_set, Option, Some}
+use Rattle.std.specs.Prelude.{◌≡◌, ⊤, ◌⊎◌, ◌<◌, ◌≤◌, ℕ, suc, Bool, true, false, List, [], ◌∷◌, ◌++◌, ◌||◌, length, map}
+use Rattle.std.specs.Prelude.{slice_get, slice_index_or, slice_set, Option, Some}
 use Rattle.std.specs.List.{Contains}
 use Rattle.rasta_pdu.specs.Params.{Parameters}
 use Rattle.seatmelon_audit.specs.Ways.{ways_between}
@@ -21,16 +22,20 @@ IsWithin OutOfMemory count = ⊤
 
 -- the connection stands as these records say
 pub record IsLine (records : List Captured) (l : Line) : Type 0 where
-  pub standing : IsStanding l.standing (crossed_by l.params records) records l.params (crossed_in l.builder) l.packets.items
+  pub standing : IsStanding l.standing (crossed_by l.params records) records l.params
+      (crossed_in l.builder) l.packets.items
   pub within : IsWithin l.standing (length records)
   pub taken : l.taken ≤ length records
 
 abbrev pub IsJudged : Line → Line → Numbered → Option CaptureTime → Type 0
-IsJudged old new r time = IsJudgedSo new.standing old.params (crossed_in old.builder) (crossed_in new.builder) old.packets.items new.packets.items r time
+IsJudged old new r time =
+    IsJudgedSo new.standing old.params (crossed_in old.builder) (crossed_in new.builder)
+      old.packets.items new.packets.items r time
 
 -- what was so of the records before the next one, which was captured at this time, is so of it too
 abbrev pub TakesIn : Line → Line → Numbered → Option CaptureTime → Type 0
-TakesIn old new r time = (records : List Captured) (q : Captured) → numbered q ≡ r → r.0 ≡ suc (length records) → time ≡ Some q.time → IsLine records old → IsLine (records ++ q ∷ []) new
+TakesIn old new r time = (records : List Captured) (q : Captured) → numbered q ≡ r → r.0 ≡ suc (length records)
+    → time ≡ Some q.time → IsLine records old → IsLine (records ++ q ∷ []) new
 
 -- ---- all connections
 
@@ -44,7 +49,8 @@ pub record IsStep (old new : Line) (r : Numbered) (time : Option CaptureTime) : 
 -- the connection at this place becomes another one, and the others stay
 pub record IsChangedAt (Changes : Line → Line → Type 0) (place : ℕ) (old new : List Line) : Type 0 where
   pub past : length old ≤ place → new ≡ old
-  pub here : (d : Line) → place < length old → (m : Line) × (new ≡ slice_set old place m) × Changes (slice_index_or old place d) m
+  pub here : (d : Line) → place < length old
+      → (m : Line) × (new ≡ slice_set old place m) × Changes (slice_index_or old place d) m
 
 -- the connection at this place takes the record in, and no other one
 abbrev pub IsStepAt : ℕ → List Line → List Line → Numbered → Option CaptureTime → Type 0
@@ -68,7 +74,8 @@ AreLines records lines = (i : ℕ) (d : Line) → i < length lines → IsLine re
 
 -- what was so of the records before the next one is so of it too
 abbrev pub AllTakeIn : List Line → List Line → Numbered → Option CaptureTime → Type 0
-AllTakeIn old new r time = (records : List Captured) (q : Captured) → numbered q ≡ r → r.0 ≡ suc (length records) → time ≡ Some q.time → AreLines records old → AreLines (records ++ q ∷ []) new
+AllTakeIn old new r time = (records : List Captured) (q : Captured) → numbered q ≡ r → r.0 ≡ suc (length records)
+    → time ≡ Some q.time → AreLines records old → AreLines (records ++ q ∷ []) new
 
 -- ---- while the connections take in a record
 
@@ -81,26 +88,32 @@ abbrev pub AreBetween : List Captured → Captured → List Line → Type 0
 AreBetween records q lines = (i : ℕ) (d : Line) → i < length lines → IsBetween records q (slice_index_or lines i d)
 
 abbrev pub AllBetween : List Line → List Line → Numbered → Option CaptureTime → Type 0
-AllBetween old new r time = (records : List Captured) (q : Captured) → numbered q ≡ r → r.0 ≡ suc (length records) → time ≡ Some q.time → AreBetween records q old → AreBetween records q new
+AllBetween old new r time = (records : List Captured) (q : Captured) → numbered q ≡ r → r.0 ≡ suc (length records)
+    → time ≡ Some q.time → AreBetween records q old → AreBetween records q new
 
 -- some connection holds the record; or none does of those that have taken it in since
 abbrev pub TellsHeld : Bool → List Line → List Line → Numbered → Type 0
-TellsHeld true first new r = (i : ℕ) × (p : Parameters) × (slice_get (params_of first) i ≡ Some p) × (is_held p r ≡ true)
+TellsHeld true first new r = (i : ℕ) × (p : Parameters) × (slice_get (params_of first) i ≡ Some p)
+    × (is_held p r ≡ true)
 TellsHeld false first new r = (i : ℕ) (d : Line) → i < length first → (slice_index_or new i d).taken ≡ r.0
     → ((slice_index_or first i d).taken ≡ r.0) ⊎ (is_held (slice_index_or first i d).params r ≡ false)
 
 -- whether one of these connections holds the next record
 abbrev pub TellsAny : Bool → List Line → Numbered → Type 0
-TellsAny held lines r = (records : List Captured) → r.0 ≡ suc (length records) → AreLines records lines → held ≡ is_any_held (params_of lines) r
+TellsAny held lines r = (records : List Captured) → r.0 ≡ suc (length records) → AreLines records lines
+    → held ≡ is_any_held (params_of lines) r
 
 -- the connections of these ways have taken in the record of this number
 abbrev pub HaveTaken : List Way → ℕ → List Line → Type 0
-HaveTaken ways number lines = (w : Way) (d : Line) → Contains ways w → w.line < length lines → (slice_index_or lines w.line d).taken ≡ number
+HaveTaken ways number lines = (w : Way) (d : Line) → Contains ways w → w.line < length lines
+    → (slice_index_or lines w.line d).taken ≡ number
 
 -- where the connections of some ways between these hosts have, that of one way more has too, if it is between them
 abbrev pub TakesToo : ℕ → Way → ℕ → List Line → List Line → Type 0
-TakesToo hosts way number old new = (ways : List Way) → HaveTaken (ways_between hosts ways) number old → HaveTaken (ways_between hosts (ways ++ way ∷ [])) number new
+TakesToo hosts way number old new = (ways : List Way) → HaveTaken (ways_between hosts ways) number old
+    → HaveTaken (ways_between hosts (ways ++ way ∷ [])) number new
 
 -- what was told of the connections before is told of those after it, with this answer
 abbrev pub TellsToo : Bool → List Line → List Line → Numbered → Type 0
-TellsToo answer old new r = (first : List Line) (held : Bool) → params_of old ≡ params_of first → TellsHeld held first old r → TellsHeld (held || answer) first new r
+TellsToo answer old new r = (first : List Line) (held : Bool) → params_of old ≡ params_of first
+    → TellsHeld held first old r → TellsHeld (held || answer) first new r

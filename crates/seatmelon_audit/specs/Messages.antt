@@ -2,7 +2,7 @@
 use Rattle.std.specs.Prelude.{◌≡◌, ℕ, List, length, flat_map, if◌then◌else◌}
 use Rattle.rasta_pdu.specs.declared.kind.Kind.TheVariants.{Data}
 use Rattle.rasta_pdu.specs.Pdu.{RedundancyPdu, is_kind, messages_in}
-use Rattle.rasta_check.specs.Capture.Crossing.{FirstCopy}
+use Rattle.rasta_check.specs.Capture.SentLists.{FirstCopy}
 use Rattle.rasta_check.specs.Model.Taken.{data_copies}
 use Rattle.rasta_check.specs.Verdict.Listed.{ListedMessage}
 use Rattle.seatmelon_audit.specs.declared.answer.Conveyed.{Conveyed}

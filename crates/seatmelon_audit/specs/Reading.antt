@@ -36,7 +36,8 @@ pub record HasRead (recorded : List Parameters) (done : List Captured) (r : Read
   pub none : r.fault ≡ None
 
 -- the records so far were read of a known file
-pub record GoesOn (recorded : List Parameters) (file : List ℕ) (records : RecordReader) (input : Option (List ℕ)) (r : Reading) : Type 0 where
+pub record GoesOn (recorded : List Parameters) (file : List ℕ) (records : RecordReader)
+    (input : Option (List ℕ)) (r : Reading) : Type 0 where
   pub done : List Captured
   pub reader : ReaderOnWay file records input done
   pub read : HasRead recorded done r

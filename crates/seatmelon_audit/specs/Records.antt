@@ -1,12 +1,15 @@
 -- What the records of a capture say of a connection.
-use Rattle.std.specs.Prelude.{◌≡◌, ⊤, ℕ, zero, suc, List, [], ◌∷◌, ◌++◌, take, map, filter, not, nat_eq, nat_le, is_some, ◌&&◌, Bool, Option, None, Some, option_map, slice_get, Result, Ok, Err, if◌then◌else◌}
+use Rattle.std.specs.Prelude.{◌≡◌, ⊤, ℕ, zero, suc, List, [], ◌∷◌, ◌++◌, take, map, filter, not, nat_eq, nat_le}
+use Rattle.std.specs.Prelude.{is_some, ◌&&◌, Bool, Option, None, Some, option_map, slice_get, Result, Ok, Err}
+use Rattle.std.specs.Prelude.{if◌then◌else◌}
 use Rattle.std.specs.List.{list_any}
 use Rattle.rasta_pcap.specs.declared.fault.Fault.{Fault}
 use Rattle.rasta_pcap.specs.declared.time.CaptureTime.{CaptureTime}
 use Rattle.rasta_pcap.specs.Capture.{Numbered}
 use Rattle.rasta_pcap.specs.Captured.{Captured, numbered}
 use Rattle.rasta_pdu.specs.Params.{Parameters}
-use Rattle.rasta_check.specs.Capture.Reading.{Crossing, after_record, after_records, nothing_crossed, packet_at}
+use Rattle.rasta_check.specs.Capture.Crossing.{Crossing, nothing_crossed}
+use Rattle.rasta_check.specs.Capture.Reading.{after_record, after_records, packet_at}
 use Rattle.seatmelon_audit.specs.declared.line.Stamp.{Stamp}
 use Rattle.seatmelon_audit.specs.declared.line.Standing.{Standing}
 use Rattle.seatmelon_audit.specs.declared.line.Standing.TheVariants.{OutOfMemory, Reading, Refused}
@@ -44,7 +47,8 @@ subject_at number time = record { «record» = number; time = time }
 -- the record that a fault of the capture names: its number and, where it was read whole, its time
 abbrev pub subject_of : List Captured → ℕ → Option Subject
 subject_of records zero = None
-subject_of records (suc before) = Some (subject_at (suc before) (option_map (λ (r : Captured). r.time) (slice_get records before)))
+subject_of records (suc before) =
+    Some (subject_at (suc before) (option_map (λ (r : Captured). r.time) (slice_get records before)))
 
 -- the record that the fault behind the last record names: it has no time, as it was not read whole
 abbrev pub subject_behind : ℕ → Option Subject
@@ -60,19 +64,23 @@ abbrev pub pushed_at : Parameters → List Stamp → List Stamp → Numbered →
 pushed_at p old new r time = (t : CaptureTime) → time ≡ Some t → new ≡ old ++ stamps_at p r t
 
 -- after a record that is judged the connection stands so
-abbrev pub IsJudgedSo : Standing → Parameters → Crossing → Crossing → List Stamp → List Stamp → Numbered → Option CaptureTime → Type 0
+abbrev pub IsJudgedSo : Standing → Parameters → Crossing → Crossing → List Stamp → List Stamp → Numbered
+    → Option CaptureTime → Type 0
 IsJudgedSo Reading p k next old new r time = (after_record k r ≡ Ok next) × pushed_at p old new r time
-IsJudgedSo (Refused refusal) p k next old new r time = (after_record k r ≡ Err refusal.fault) × (refusal.subject ≡ Some (subject_at r.0 time))
+IsJudgedSo (Refused refusal) p k next old new r time = (after_record k r ≡ Err refusal.fault)
+    × (refusal.subject ≡ Some (subject_at r.0 time))
 IsJudgedSo OutOfMemory p k next old new r time = ⊤
 
 -- a packet is noted, if there is memory for it
 abbrev pub IsNotedSo : Standing → List Stamp → List Stamp → ℕ → Option CaptureTime → Type 0
-IsNotedSo Reading old new number time = (t : CaptureTime) → time ≡ Some t → new ≡ old ++ record { «record» = number; time = t } ∷ []
+IsNotedSo Reading old new number time = (t : CaptureTime) → time ≡ Some t
+    → new ≡ old ++ record { «record» = number; time = t } ∷ []
 IsNotedSo (Refused refusal) old new number time = ⊥
 IsNotedSo OutOfMemory old new number time = ⊤
 
 -- a connection of which this crossed, and whose packets are noted so, stands so
 abbrev pub IsStanding : Standing → Result Crossing Fault → List Captured → Parameters → Crossing → List Stamp → Type 0
 IsStanding Reading crossed records p k packets = (crossed ≡ Ok k) × (packets ≡ map stamp_of (holding p records))
-IsStanding (Refused refusal) crossed records p k packets = (crossed ≡ Err refusal.fault) × (refusal.subject ≡ subject_of records refusal.fault.place)
+IsStanding (Refused refusal) crossed records p k packets = (crossed ≡ Err refusal.fault)
+    × (refusal.subject ≡ subject_of records refusal.fault.place)
 IsStanding OutOfMemory crossed records p k packets = ⊤

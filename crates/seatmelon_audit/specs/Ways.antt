@@ -1,5 +1,6 @@
 -- Which connections record which hosts.
-use Rattle.std.specs.Prelude.{◌≡◌, ◌<◌, ◌≤◌, ◌⊎◌, ℕ, List, length, nat_eq, nat_lt, true, false, None, Some, Ok, slice_get, slice_index_or}
+use Rattle.std.specs.Prelude.{◌≡◌, ◌<◌, ◌≤◌, ◌⊎◌, ℕ, List, length, nat_eq, nat_lt, true, false, None, Some, Ok}
+use Rattle.std.specs.Prelude.{slice_get, slice_index_or}
 use Rattle.std.specs.List.{Contains, filter}
 use Rattle.std.specs.List.Sorted.{IsNonDecreasingBy, IsPartitionPoint}
 use Rattle.rasta_udp.specs.declared.channel.Channel.{Channel}
@@ -22,11 +23,13 @@ AreSorted buckets ways = IsNonDecreasingBy (λ (w : Way). bucket_of w.hosts buck
 -- the ways of the buckets before this one stand before this place, the others don't
 abbrev pub BeginAt : ℕ → ℕ → List Way → ℕ → Type 0
 BeginAt buckets bucket ways place =
-    IsPartitionPoint (λ (w : Way). nat_lt (bucket_of w.hosts buckets) bucket ≡ true) (λ (w : Way). nat_lt (bucket_of w.hosts buckets) bucket ≡ false) ways place
+    IsPartitionPoint (λ (w : Way). nat_lt (bucket_of w.hosts buckets) bucket
+    ≡ true) (λ (w : Way). nat_lt (bucket_of w.hosts buckets) bucket ≡ false) ways place
 
 -- each of these is where a bucket begins
 abbrev pub AreStarts : ℕ → List Way → List ℕ → Type 0
-AreStarts buckets ways starts = (bucket : ℕ) (d : ℕ) → bucket < length starts → BeginAt buckets bucket ways (slice_index_or starts bucket d)
+AreStarts buckets ways starts = (bucket : ℕ) (d : ℕ) → bucket < length starts
+    → BeginAt buckets bucket ways (slice_index_or starts bucket d)
 
 -- and each is a place among the ways, or their end
 abbrev pub AreWithin : List Way → List ℕ → Type 0
@@ -35,7 +38,8 @@ AreWithin ways starts = (bucket : ℕ) (d : ℕ) → bucket < length starts → 
 -- both ways over each of these channels are known, as this connection's
 abbrev pub KnowsChannels : List Way → ℕ → List Channel → Type 0
 KnowsChannels ways line channels = (c : Channel) → Contains channels c
-    → Contains ways (way_of (hosts_between c.client c.server) line) × Contains ways (way_of (hosts_between c.server c.client) line)
+    → Contains ways (way_of (hosts_between c.client c.server) line)
+    × Contains ways (way_of (hosts_between c.server c.client) line)
 
 -- the ways of each of these connections are known, by its place among them
 abbrev pub KnowsAll : List Way → List Parameters → Type 0
@@ -47,4 +51,5 @@ IsNamed ways line = (w : Way) × Contains ways w × (w.line ≡ line)
 
 -- each connection is named, or the frame holds neither a packet of its channels nor a faulty one of their hosts
 abbrev pub NamesAll : List Way → List Parameters → List ℕ → Type 0
-NamesAll ways params frame = (line : ℕ) (p : Parameters) → slice_get params line ≡ Some p → IsNamed ways line ⊎ (packet_in p.channels frame ≡ Ok None)
+NamesAll ways params frame = (line : ℕ) (p : Parameters) → slice_get params line ≡ Some p
+    → IsNamed ways line ⊎ (packet_in p.channels frame ≡ Ok None)

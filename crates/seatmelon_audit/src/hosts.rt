@@ -1,6 +1,6 @@
 //! Between which hosts a frame goes.
 ghost use Rattle.std.specs.Prelude.{◌≡◌, ◌+◌, ◌*◌, ◌^◌, ◌≤◌, length};
-ghost use Rattle.rasta_udp.specs.Frame.{address_of, fields_of, is_tagged, number_at};
+ghost use Rattle.rasta_udp.specs.Frame.{address_of, fields_of, is_tagged, big_at};
 ghost use Rattle.seatmelon_audit.specs.Hosts.{hosts_between, hosts_in, hosts_of};
 
 use byteorder::{BigEndian, ByteOrder};
@@ -23,18 +23,18 @@ const ETHERNET_HEADER: usize = 14;
 
 const LEAST_IPV4_HEADER: usize = 20;
 
-#[tactic(auto, unfolding(rasta_udp::specs::Frame::number_at))]
+#[tactic(auto, unfolding(rasta_udp::specs::Frame::big_at))]
 fn u16_at(bytes: &[u8], place: usize) -> u16
     requires { place + 2 ≤ length bytes.now }
-    ensures { result ≡ number_at 2 place bytes.now }
+    ensures { result ≡ big_at 2 place bytes.now }
 {
     BigEndian::read_u16(&bytes[place..])
 }
 
-#[tactic(auto, unfolding(rasta_udp::specs::Frame::number_at))]
+#[tactic(auto, unfolding(rasta_udp::specs::Frame::big_at))]
 fn u32_at(bytes: &[u8], place: usize) -> u32
     requires { place + 4 ≤ length bytes.now }
-    ensures { result ≡ number_at 4 place bytes.now }
+    ensures { result ≡ big_at 4 place bytes.now }
 {
     BigEndian::read_u32(&bytes[place..])
 }

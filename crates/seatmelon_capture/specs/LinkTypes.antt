@@ -3,10 +3,13 @@ use Rattle.std.specs.Prelude.{ℕ, List, [], ◌∷◌, ◌==◌, ◌&&◌, nat_
 
 -- by the public registry
 abbrev pub names : List (ℕ × List ℕ)
-names = (0, codes "BSD loopback") ∷ (1, codes "Ethernet") ∷ (6, codes "IEEE 802.5 token ring") ∷ (9, codes "PPP") ∷ (10, codes "FDDI")
+names =
+    (0, codes "BSD loopback") ∷ (1, codes "Ethernet") ∷ (6, codes "IEEE 802.5 token ring") ∷ (9, codes "PPP")
+    ∷ (10, codes "FDDI")
     ∷ (12, codes "raw IP of some systems") ∷ (14, codes "raw IP of some systems") ∷ (101, codes "raw IP")
     ∷ (105, codes "IEEE 802.11 wireless LAN") ∷ (107, codes "Frame Relay") ∷ (108, codes "OpenBSD loopback")
-    ∷ (113, codes "Linux cooked capture") ∷ (127, codes "IEEE 802.11 wireless LAN with radiotap") ∷ (228, codes "raw IPv4")
+    ∷ (113, codes "Linux cooked capture") ∷ (127, codes "IEEE 802.11 wireless LAN with radiotap")
+    ∷ (228, codes "raw IPv4")
     ∷ (229, codes "raw IPv6") ∷ (276, codes "Linux cooked capture v2") ∷ []
 
 -- the text beside a number, if it stands there

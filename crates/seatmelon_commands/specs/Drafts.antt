@@ -1,5 +1,6 @@
 -- Which connection is drafted.
-use Rattle.std.specs.Prelude.{◌≡◌, ◌⊎◌, ℕ, ◌-◌, ◌<◌, ◌≤◌, ◌==◌, ◌&&◌, ◌||◌, Bool, true, false, List, Some, length, slice_get}
+use Rattle.std.specs.Prelude.{◌≡◌, ◌⊎◌, ℕ, ◌-◌, ◌<◌, ◌≤◌, ◌==◌, ◌&&◌, ◌||◌, Bool, true, false, List, Some, length}
+use Rattle.std.specs.Prelude.{slice_get}
 use Rattle.std.specs.Option.{option_copied}
 use Rattle.rasta_pdu.specs.Params.{Parameters}
 use Rattle.seatmelon_connections.specs.declared.connection.Connection.{Connection}
@@ -9,12 +10,13 @@ use Rattle.seatmelon_commands.specs.declared.answer.Answer.{Answer}
 use Rattle.seatmelon_commands.specs.declared.answer.Answer.TheVariants.{Survey, Draft}
 use Rattle.seatmelon_commands.specs.declared.answer.Draft as drafts
 
--- the draft is that of the connection of this number, from 1, and names the fault of the capture by the format of its file;
--- the survey stands where there is none at all
+-- the draft is that of the connection of this number, from 1, and names the fault of the capture by the format of its
+-- file; the survey stands where there is none at all
 abbrev pub IsAnswer : Findings → ℕ → Answer → Type 0
 IsAnswer survey number (Survey s) = (s.now ≡ survey) × (length survey.connections ≡ 0)
 IsAnswer survey number (Draft d) =
-    (1 ≤ number) × (slice_get survey.connections (number - 1) ≡ Some d.connection.now) × (d.fault ≡ survey.fault) × (d.format ≡ survey.format)
+    (1 ≤ number) × (slice_get survey.connections (number - 1) ≡ Some d.connection.now) × (d.fault ≡ survey.fault)
+    × (d.format ≡ survey.format)
 
 -- parameters have the ids of a connection's ends
 abbrev pub has_ids_of : Parameters → Connection → Bool

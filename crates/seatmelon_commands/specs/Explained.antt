@@ -12,7 +12,8 @@ certificate_in inputs = option_map (λ text. text.items) inputs.certificate
 
 -- the records of the file that stay, where it is known, have no fault, and what crossed by them is explained
 abbrev pub IsCaptureExplained : Explaining → Inputs → Option (List ℕ) → Type 0
-IsCaptureExplained explaining inputs file = IsFileExplained inputs.params explaining.without.items (certificate_in inputs) file
+IsCaptureExplained explaining inputs file =
+    IsFileExplained inputs.params explaining.without.items (certificate_in inputs) file
 
 -- this stands beside a capture
 pub record IsGivenFor (explaining : Explaining) (inputs : Inputs) (g : given.Inputs) : Type 0 where

@@ -1,7 +1,9 @@
 -- The exit status of a failure.
 use Rattle.std.specs.Prelude.{◌≡◌, ◌⊎◌, ℕ, ◌==◌, ◌||◌, Bool, true, false, if◌then◌else◌}
 use Rattle.seatmelon_commands.specs.declared.failure.Failure.{Failure}
-use Rattle.seatmelon_commands.specs.declared.failure.Failure.TheVariants.{OutOfMemory, Arguments, Reading, Writing, ClosedPipe, Refused, NoConnection, NoRecord, OtherIds, Parameters, NoFiles, TooManyFiles}
+use Rattle.seatmelon_commands.specs.declared.failure.Failure.TheVariants.{OutOfMemory, Arguments, Reading, Writing}
+use Rattle.seatmelon_commands.specs.declared.failure.Failure.TheVariants.{ClosedPipe, Refused, NoConnection, NoRecord}
+use Rattle.seatmelon_commands.specs.declared.failure.Failure.TheVariants.{OtherIds, Parameters, NoFiles, TooManyFiles}
 
 -- a capture; words and parameters; memory and devices
 abbrev pub status_of : Failure → ℕ

@@ -1,5 +1,6 @@
 -- What the first bytes of a file tell of it.
-use Rattle.std.specs.Prelude.{ℕ, List, [], ◌∷◌, Bool, true, false, ◌==◌, ◌||◌, ◌&&◌, length, nat_le, nat_lt, if◌then◌else◌}
+use Rattle.std.specs.Prelude.{ℕ, List, [], ◌∷◌, Bool, true, false, ◌==◌, ◌||◌, ◌&&◌, length, nat_le, nat_lt}
+use Rattle.std.specs.Prelude.{if◌then◌else◌}
 use Rattle.std.specs.List.{list_all}
 use Rattle.seatmelon_commands.specs.declared.file_kind.FileKind.{FileKind}
 use Rattle.seatmelon_commands.specs.declared.file_kind.FileKind.TheVariants.{Capture, Gzip, Pcapng, Text, Other}

@@ -5,8 +5,8 @@ use Rattle.seatmelon_pcapng.specs.Peeked.{begins_pcapng}
 use Rattle.seatmelon_pcapng.specs.declared.format.Format.{Format}
 use Rattle.seatmelon_pcapng.specs.declared.refusal.Refusal.{Refusal}
 
--- a format is that of a file, and a refusal and a link type that it tells are the file's; what a file is refused for, and its
--- first packet that isn't one of Ethernet, may stand behind what was read of it
+-- a format is that of a file, and a refusal and a link type that it tells are the file's; what a file is refused for,
+-- and its first packet that isn't one of Ethernet, may stand behind what was read of it
 abbrev pub FormatFits : List ℕ → Format → Type 0
 FormatFits file format = (is_of_pcapng format ≡ begins_pcapng file)
     × ((refusal : Refusal) → refusal_told format ≡ Some refusal → refusal_told (format_of file) ≡ Some refusal)

@@ -4,7 +4,9 @@ use Rattle.std.specs.Option.{ForSome}
 use Rattle.seatmelon_capture.specs.declared.header.FileHeader.{FileHeader}
 use Rattle.seatmelon_capture.specs.Header.{header_in}
 use Rattle.seatmelon_commands.specs.declared.failure.Failure.{Failure}
-use Rattle.seatmelon_commands.specs.declared.failure.Failure.TheVariants.{OutOfMemory, Arguments, Reading, Writing, ClosedPipe, Refused, NoConnection, NoRecord, OtherIds, Parameters, NoFiles, TooManyFiles}
+use Rattle.seatmelon_commands.specs.declared.failure.Failure.TheVariants.{OutOfMemory, Arguments, Reading, Writing}
+use Rattle.seatmelon_commands.specs.declared.failure.Failure.TheVariants.{ClosedPipe, Refused, NoConnection, NoRecord}
+use Rattle.seatmelon_commands.specs.declared.failure.Failure.TheVariants.{OtherIds, Parameters, NoFiles, TooManyFiles}
 
 -- what is told of a header is so
 abbrev pub HeaderFits : (Option FileHeader → Type 0) → Failure → Type 0

@@ -2,7 +2,9 @@
 use Rattle.std.specs.Prelude.{◌≡◌, ℕ, Bool, false, not, ◌==◌, ◌&&◌, ◌||◌, if◌then◌else◌, Option, Some, None}
 use Rattle.std.specs.Option.{option_map, option_map_or}
 use Rattle.rasta_pdu.specs.declared.kind.Kind.{Kind}
-use Rattle.rasta_pdu.specs.declared.kind.Kind.TheVariants.{ConnectionRequest, ConnectionResponse, RetransmissionRequest, RetransmissionResponse, DisconnectionRequest, Heartbeat, Data, RetransmittedData}
+use Rattle.rasta_pdu.specs.declared.kind.Kind.TheVariants.{ConnectionRequest, ConnectionResponse, RetransmissionRequest}
+use Rattle.rasta_pdu.specs.declared.kind.Kind.TheVariants.{RetransmissionResponse, DisconnectionRequest, Heartbeat}
+use Rattle.rasta_pdu.specs.declared.kind.Kind.TheVariants.{Data, RetransmittedData}
 use Rattle.seatmelon_packets.specs.declared.packet.Packet.{Packet}
 use Rattle.seatmelon_connections.specs.declared.channel.End.{End}
 use Rattle.seatmelon_connections.specs.declared.channel.End.TheVariants.{First, Second}
@@ -78,7 +80,8 @@ is_opened_by c p = option_map_or (λ r. option_map_or (is_same_request r) c.requ
 -- request has other numbers
 abbrev pub is_followed_by : Connection → Packet → Bool
 is_followed_by c p =
-    option_map_or (λ r. has_ending_in c || not (option_map_or (has_same_numbers r) c.request false)) (request_in p) false
+    option_map_or (λ r. has_ending_in c
+    || not (option_map_or (has_same_numbers r) c.request false)) (request_in p) false
 
 -- a connection keeps its ends and its request
 pub record HasSameOpening (old new : Connection) : Type 0 where

@@ -1,5 +1,6 @@
 -- What a packet is among those of its end, by its number and its bytes.
-use Rattle.std.specs.Prelude.{ℕ, ◌+◌, ◌-◌, ◌%◌, ◌^◌, Bool, true, false, ◌==◌, ◌||◌, nat_lt, if◌then◌else◌, Option, Some, None, slice_get, unwrap_or}
+use Rattle.std.specs.Prelude.{ℕ, ◌+◌, ◌-◌, ◌%◌, ◌^◌, Bool, true, false, ◌==◌, ◌||◌, nat_lt, if◌then◌else◌, Option, Some}
+use Rattle.std.specs.Prelude.{None, slice_get, unwrap_or}
 use Rattle.seatmelon_connections.specs.declared.numbers.Numbers.{Numbers}
 use Rattle.seatmelon_connections.specs.declared.numbers.Remembered.{Remembered}
 use Rattle.seatmelon_connections.specs.declared.numbers.Sighting.{Sighting}

@@ -3,7 +3,7 @@ use Rattle.std.proofs.Common.{◌≡◌, ◌∙◌, ap, sym, ℕ, List, Option, 
 use Rattle.std.specs.List.{find}
 use Rattle.rasta_pcap.specs.declared.fault.Fault.{Fault}
 use Rattle.rasta_pdu.specs.Params.{Parameters}
-use Rattle.rasta_check.specs.Capture.Reading.{Crossing}
+use Rattle.rasta_check.specs.Capture.Crossing.{Crossing}
 use Rattle.rasta_verdict.specs.Given.{IsExplained}
 use Rattle.seatmelon_account.specs.Account.{IsToldOf, text_in}
 use Rattle.seatmelon_account.specs.declared.account.Inputs.{Inputs}

@@ -1,8 +1,9 @@
 -- What an outcome says of a capture.
-use Rattle.std.specs.Prelude.{◌≡◌, ℕ, List, Bool, false, ◌&&◌, Option, None, Some, is_some, Ok, option_map, nat_eq, nat_lt, ⊤}
+use Rattle.std.specs.Prelude.{◌≡◌, ℕ, List, Bool, false, ◌&&◌, Option, None, Some, is_some, Ok, option_map, nat_eq}
+use Rattle.std.specs.Prelude.{nat_lt, ⊤}
 use Rattle.std.specs.List.{find}
 use Rattle.rasta_pdu.specs.Params.{Parameters}
-use Rattle.rasta_check.specs.Capture.Reading.{Crossing}
+use Rattle.rasta_check.specs.Capture.Crossing.{Crossing}
 use Rattle.rasta_verdict.specs.Given.{IsExplained}
 use Rattle.seatmelon_account.specs.Account.{IsAccount}
 use Rattle.seatmelon_account.specs.declared.account.Account.{Account}
@@ -31,10 +32,12 @@ certificate_in texts = option_map (λ text. text.now) texts.certificate
 abbrev pub IsSomeExplained : Option (List ℕ) → Type 0
 IsSomeExplained text = (k : Crossing) × IsExplained k text
 
--- the records of its classic capture that stay, where the file is known, have no fault, and what crossed by them is explained
+-- the records of its classic capture that stay, where the file is known, have no fault, and what crossed by them is
+-- explained
 abbrev pub IsFileExplained : Parameters → List ℕ → Option (List ℕ) → Option (List ℕ) → Type 0
 IsFileExplained p without text None = ⊤
-IsFileExplained p without text (Some file) = (k : Crossing) × (crossing_without p without (capture_of file) ≡ Ok k) × IsExplained k text
+IsFileExplained p without text (Some file) = (k : Crossing) × (crossing_without p without (capture_of file) ≡ Ok k)
+    × IsExplained k text
 
 -- the first record that is to be left out and that a capture of so many doesn't have
 abbrev pub IsMissing : List ℕ → ℕ → Option ℕ → Type 0
@@ -58,14 +61,17 @@ asks_supposed inputs reading = is_some inputs.suppose && (reading.notes.tape.is_
 
 -- where no record that is to be left out is missing, an account of what was read comes to this
 abbrev pub IsToldIf : Option ℕ → Inputs → Reading → Outcome → Type 0
-IsToldIf None inputs reading outcome = (a : Account) × IsAccount inputs reading a × (is_some a.hypothesis ≡ asks_supposed inputs reading)
+IsToldIf None inputs reading outcome = (a : Account) × IsAccount inputs reading a
+    × (is_some a.hypothesis ≡ asks_supposed inputs reading)
     × (outcome ≡ outcome_in a.verdict)
 IsToldIf (Some number) inputs reading outcome = outcome ≡ outcomes.NoRecord number reading.notes.records
 
 abbrev pub IsToldBy : Inputs → Reading → Outcome → Type 0
-IsToldBy inputs reading outcome = IsToldIf (find (nat_lt reading.notes.records) inputs.without.now) inputs reading outcome
+IsToldBy inputs reading outcome =
+    IsToldIf (find (nat_lt reading.notes.records) inputs.without.now) inputs reading outcome
 
 -- an account of what was read of the file, where it is known, comes to this
 abbrev pub IsFileTold : Inputs → Option (List ℕ) → Outcome → Type 0
 IsFileTold inputs None outcome = ⊤
-IsFileTold inputs (Some file) outcome = (r : Reading) × IsReading inputs.params.now inputs.without.now file r × IsToldBy inputs r outcome
+IsFileTold inputs (Some file) outcome = (r : Reading) × IsReading inputs.params.now inputs.without.now file r
+    × IsToldBy inputs r outcome

@@ -1,10 +1,11 @@
 -- What is found out of a datagram: how it fits each length of the codes, and its hash.
-use Rattle.std.specs.Prelude.{ℕ, ◌+◌, ◌-◌, ◌==◌, ◌||◌, Bool, true, false, List, length, Option, Some, None, Result, Ok, Err, nat_lt, if◌then◌else◌}
+use Rattle.std.specs.Prelude.{ℕ, ◌+◌, ◌-◌, ◌==◌, ◌||◌, Bool, true, false, List, length, Option, Some, None, Result, Ok}
+use Rattle.std.specs.Prelude.{Err, nat_lt, if◌then◌else◌}
 use Rattle.std.specs.Hash.DefaultHasher as sip
 use Rattle.rasta_pcap.specs.declared.fault.Fault.{Fault}
 use Rattle.rasta_pcap.specs.declared.fault.Side.TheVariants.{Client}
 use Rattle.rasta_pdu.specs.Params.{Parameters}
-use Rattle.rasta_pdu.specs.Pdu.{RedundancyPdu, decode_of, number_at}
+use Rattle.rasta_pdu.specs.Pdu.{RedundancyPdu, decode_of, little_at}
 use Rattle.seatmelon_packets.specs.declared.lengths.Fit.{Fit}
 use Rattle.seatmelon_packets.specs.declared.lengths.Fit.TheVariants as fit
 use Rattle.seatmelon_packets.specs.declared.lengths.Fits.{Fits}
@@ -35,7 +36,8 @@ fits_by_codes t check_length bytes = record {
 
 -- the trials with a check code of this length
 abbrev pub trials_with : Trials → ℕ → CodeTrials
-trials_with t check_length = if check_length == 0 then t.no_check else if check_length == 2 then t.short_check else t.long_check
+trials_with t check_length = if check_length == 0 then t.no_check else if check_length == 2 then t.short_check
+    else t.long_check
 
 -- how a datagram with a check code of this length fits each length of the safety code
 unfoldable pub fits_by : Trials → ℕ → List ℕ → Fits
@@ -59,7 +61,7 @@ check_length_in safety rest =
 
 -- the length of a datagram's check code: of what follows its safety PDU, whose length stands at 8
 abbrev pub check_length_of : List ℕ → Option ℕ
-check_length_of bytes = check_length_in (number_at 2 8 bytes) (length bytes - 8)
+check_length_of bytes = check_length_in (little_at 2 8 bytes) (length bytes - 8)
 
 -- SipHash-1-3 with both keys 0
 abbrev pub hash_of : List ℕ → ℕ

@@ -35,7 +35,7 @@ pub struct Cut {
 }
 
 // Whether what was captured of a datagram of this length begins as RaSTA does.
-#[tactic(auto, unfolding(rasta_pdu::specs::Pdu::number_at, crate::specs::Cut::begins_pdu))]
+#[tactic(auto, unfolding(rasta_pdu::specs::Pdu::little_at, crate::specs::Cut::begins_pdu))]
 fn begins_pdu(due: usize, bytes: &[u8]) -> bool
     ensures { result ≡ begins_pdu due bytes.now }
 {

@@ -1,6 +1,6 @@
 //! The ends of a frame.
 ghost use Rattle.std.specs.Prelude.{◌≡◌, ◌+◌, ◌≤◌, length};
-ghost use Rattle.rasta_udp.specs.Frame.{header_length_of, number_at};
+ghost use Rattle.rasta_udp.specs.Frame.{header_length_of, big_at};
 ghost use Rattle.seatmelon_packets.specs.Cut.{endpoint_at, route_of, untagged};
 
 use byteorder::{BigEndian, ByteOrder};
@@ -24,10 +24,10 @@ const DESTINATION_AT: usize = 30;
 pub const LEAST_IPV4_FRAME: usize = 34;
 
 /// The number in the two bytes from this place on, the highest byte first.
-#[tactic(auto, unfolding(rasta_udp::specs::Frame::number_at))]
+#[tactic(auto, unfolding(rasta_udp::specs::Frame::big_at))]
 pub fn u16_at(bytes: &[u8], place: usize) -> u16
     requires { place + 2 ≤ length bytes.now }
-    ensures { result ≡ number_at 2 place bytes.now }
+    ensures { result ≡ big_at 2 place bytes.now }
 {
     BigEndian::read_u16(&bytes[place..])
 }

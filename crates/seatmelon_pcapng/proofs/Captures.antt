@@ -7,7 +7,7 @@ use Rattle.std.proofs.lemmas.Bool.Decides.{nat_tests}
 use Rattle.std.proofs.lemmas.List.Concat.{flat_map-cons}
 use Rattle.byteorder.specs.Endian.{little_bytes, little_number}
 use Rattle.byteorder.specs.Numbers.{length-bytes_low_first, little_number-reads_back}
-use Rattle.rasta_pcap.specs.Capture.{Entry, IsCapture, IsEntry, IsHeader, IsRefused, Numbered, entry_bytes, max_records, next}
+use Rattle.rasta_pcap.specs.Capture.{RecordEntry, IsCapture, IsEntry, IsHeader, IsRefusedFile, Numbered, entry_bytes, max_records, next}
 use Rattle.rasta_pcap.specs.Fault.{cut_record, fault_at, too_many}
 use Rattle.rasta_pcap.specs.declared.fault.Fault.{Fault}
 use Rattle.rasta_pcap.specs.declared.pcap.Endianness.TheVariants as ends
@@ -131,7 +131,7 @@ reading_from-few (suc left) s =
 
 -- ---- a packet as a record
 
-abbrev entry_of : Packet → Entry
+abbrev entry_of : Packet → RecordEntry
 entry_of p = record { header = front_bytes p; bytes = p.bytes }
 
 -- the third of four numbers of four bytes
@@ -174,7 +174,7 @@ entries_bytes (p ∷ packets) =
 abbrev frames_of : List Packet → List (List ℕ)
 frames_of packets = map (λ (p : Packet). p.bytes) packets
 
-entries_frames : (packets : List Packet) → frames_of packets ≡ map (λ (e : Entry). e.bytes) (map entry_of packets)
+entries_frames : (packets : List Packet) → frames_of packets ≡ map (λ (e : RecordEntry). e.bytes) (map entry_of packets)
 entries_frames [] = refl
 entries_frames (p ∷ packets) = ap (λ l. p.bytes ∷ l) (entries_frames packets)
 
@@ -220,7 +220,7 @@ cut_there count n e few =
     ∙ ap (λ (k : ℕ). failing (fault_at cut_record (k + 1))) e
 
 pub classic-is_refused : (file : List ℕ) (refusal : Refusal) → (reading_of file).refusal ≡ Some refusal → length (reading_of file).packets < max_records
-    → IsRefused max_records (classic_of (reading_of file)) (frames_of (reading_of file).packets) (fault_at cut_record (length (reading_of file).packets + 1))
+    → IsRefusedFile max_records (classic_of (reading_of file)) (frames_of (reading_of file).packets) (fault_at cut_record (length (reading_of file).packets + 1))
 classic-is_refused file refusal some few =
     let r = reading_of file in
     let count : length (map entry_of r.packets) ≡ length r.packets = entries_count r.packets in record {

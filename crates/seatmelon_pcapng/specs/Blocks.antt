@@ -1,5 +1,6 @@
 -- The blocks of a section.
-use Rattle.std.specs.Prelude.{ℕ, ◌+◌, ◌*◌, ◌-◌, ◌%◌, ◌^◌, min, ◌==◌, ◌||◌, ◌&&◌, not, Bool, List, [], ◌∷◌, ◌++◌, length, slice_get, nat_lt, nat_le, Option, None, Some, Result, Ok, Err, if◌then◌else◌}
+use Rattle.std.specs.Prelude.{ℕ, ◌+◌, ◌*◌, ◌-◌, ◌%◌, ◌^◌, min, ◌==◌, ◌||◌, ◌&&◌, not, Bool, List, [], ◌∷◌, ◌++◌, length}
+use Rattle.std.specs.Prelude.{slice_get, nat_lt, nat_le, Option, None, Some, Result, Ok, Err, if◌then◌else◌}
 use Rattle.seatmelon_pcapng.specs.Interfaces.{interface_in}
 use Rattle.seatmelon_pcapng.specs.Moments.{moment_at, no_moment}
 use Rattle.seatmelon_pcapng.specs.Orders.{field, order_told}
@@ -56,7 +57,8 @@ or_else (Some order) reason = Ok order
 
 -- the byte order of the next block: a section header tells its own, and before the first one no block is read
 abbrev pub order_of : Option Order → List ℕ → Result Order Reason
-order_of known bytes = if is_section_header bytes then or_else (order_told bytes) reasons.ByteOrder else or_else known reasons.NotPcapng
+order_of known bytes = if is_section_header bytes then or_else (order_told bytes) reasons.ByteOrder
+    else or_else known reasons.NotPcapng
 
 abbrev pub kind_in : Order → List ℕ → ℕ
 kind_in order bytes = field order 4 0 bytes
@@ -67,7 +69,8 @@ length_in order bytes = field order 4 4 bytes
 abbrev pub front_by : Result Order Reason → List ℕ → Result Front Reason
 front_by (Err reason) bytes = Err reason
 front_by (Ok order) bytes =
-    if not (length_in order bytes % 4 == 0) || nat_lt (length_in order bytes) (least_length (kind_in order bytes)) then Err reasons.Length
+    if not (length_in order bytes % 4 == 0)
+    || nat_lt (length_in order bytes) (least_length (kind_in order bytes)) then Err reasons.Length
     else if nat_lt most_length (length_in order bytes) then Err reasons.TooLong
     else Ok (record { order = order; kind = kind_in order bytes; len = length_in order bytes })
 
@@ -94,7 +97,8 @@ most_interfaces = 65536
 
 -- a packet of this interface whose bytes stand there; they aren't told where it isn't one of Ethernet
 abbrev pub packet_of : Interface → Found → Turn
-packet_of i found = if i.link_type == ethernet then turns.Packet found else turns.Foreign (record found { end = found.start }) i.link_type
+packet_of i found = if i.link_type == ethernet then turns.Packet found
+    else turns.Foreign (record found { end = found.start }) i.link_type
 
 -- a packet of which so many bytes stand there, in a block that has room for so many
 abbrev pub packet_turn : Interface → Moment → ℕ → ℕ → ℕ → ℕ → Result Turn Reason
@@ -110,7 +114,9 @@ stamp_in order block = field order 4 12 block * 2 ^ 32 + field order 4 16 block
 -- a packet with interface, time, and both lengths
 abbrev pub full_turn : Order → Option Interface → List ℕ → Result Turn Reason
 full_turn order None block = Err reasons.Interface
-full_turn order (Some i) block = packet_turn i (moment_at i (stamp_in order block)) (field order 4 24 block) (field order 4 20 block) 28 (length block - 32)
+full_turn order (Some i) block =
+    packet_turn i (moment_at i (stamp_in order block)) (field order 4 24 block) (field order 4 20 block) 28
+      (length block - 32)
 
 -- as much of a packet as its interface captures
 abbrev pub bounded_by : ℕ → ℕ → ℕ
@@ -119,14 +125,17 @@ bounded_by snap original = if snap == 0 then original else min original snap
 -- a packet of the first interface, without a time, with its original length alone
 abbrev pub simple_turn : Order → Option Interface → List ℕ → Result Turn Reason
 simple_turn order None block = Err reasons.Interface
-simple_turn order (Some i) block = packet_turn i no_moment (field order 4 8 block) (bounded_by i.snap_length (field order 4 8 block)) 12 (length block - 16)
+simple_turn order (Some i) block =
+    packet_turn i no_moment (field order 4 8 block) (bounded_by i.snap_length (field order 4 8 block)) 12
+      (length block - 16)
 
 -- what a block of this type says, behind these interfaces
 abbrev pub turn_by : List Interface → Order → ℕ → List ℕ → Result Turn Reason
 turn_by interfaces order kind block =
     if kind == section_header then (if has_version order block then Ok turns.Section else Err reasons.Version)
     else if kind == interface_description then
-    (if nat_le most_interfaces (length interfaces) then Err reasons.TooManyInterfaces else Ok (turns.Interface (interface_in order block)))
+    (if nat_le most_interfaces (length interfaces) then Err reasons.TooManyInterfaces
+        else Ok (turns.Interface (interface_in order block)))
     else if kind == enhanced_packet then full_turn order (slice_get interfaces (field order 4 8 block)) block
     else if kind == obsolete_packet then full_turn order (slice_get interfaces (field order 2 8 block)) block
     else if kind == simple_packet then simple_turn order (slice_get interfaces 0) block
@@ -135,7 +144,8 @@ turn_by interfaces order kind block =
 -- what a block says, if the length at its end is that at its front
 abbrev pub turn_of : List Interface → Front → List ℕ → Result Turn Reason
 turn_of interfaces front block =
-    if field front.order 4 (front.len - 4) block == front.len then turn_by interfaces front.order front.kind block else Err reasons.Trailer
+    if field front.order 4 (front.len - 4) block == front.len then turn_by interfaces front.order front.kind block
+    else Err reasons.Trailer
 
 -- the interfaces behind a block
 abbrev pub interfaces_after : List Interface → Turn → List Interface

@@ -33,7 +33,8 @@ remarks_in c = record { refusal = refusal_in c; other_link_type = other_met c.se
 
 -- these bytes, and the records of what follows
 abbrev pub given_by : Option Order → List Interface → ℕ → List ℕ → List ℕ → List ℕ
-given_by order interfaces at held rest = held ++ records_bytes (reading_left (record { order = order; interfaces = interfaces; at = at; rest = rest }))
+given_by order interfaces at held rest =
+    held ++ records_bytes (reading_left (record { order = order; interfaces = interfaces; at = at; rest = rest }))
 
 -- what it holds, and the records of what follows
 abbrev pub given_with : {S : Type 0} → Classic S → List ℕ → List ℕ
@@ -68,7 +69,8 @@ remarks_left_by other known (Ended refusal) = Some (record { refusal = refusal; 
 
 -- what is told beside all packets in the end, where it is known what is left
 abbrev pub remarks_left : {S : Type 0} → (S → Option (List ℕ)) → Classic S → Option Remarks
-remarks_left remaining c = remarks_left_by (other_met c.section) (option_map (remarks_with c) (rest_in remaining c)) c.progress
+remarks_left remaining c =
+    remarks_left_by (other_met c.section) (option_map (remarks_with c) (rest_in remaining c)) c.progress
 
 -- where it was known, it is still the same
 abbrev pub Stays : Option Remarks → Option Remarks → Type 0

@@ -19,6 +19,8 @@ IsCut order interfaces bytes = (at : ℕ) → 0 < length bytes → next_of (stan
 -- this comes next before these bytes, whatever follows them; or there are fewer bytes than tell it
 abbrev pub Tells : Option Order → List Interface → List ℕ → Coming → Type 0
 Tells order interfaces bytes (Block front turn) =
-    ((at : ℕ) (more : List ℕ) → next_of (stands order interfaces at (bytes ++ more)) ≡ goes front turn) × EndsWithin front.len turn
-Tells order interfaces bytes (Refused reason) = (at : ℕ) (more : List ℕ) → next_of (stands order interfaces at (bytes ++ more)) ≡ refused reason
+    ((at : ℕ) (more : List ℕ) → next_of (stands order interfaces at (bytes ++ more)) ≡ goes front turn)
+    × EndsWithin front.len turn
+Tells order interfaces bytes (Refused reason) = (at : ℕ) (more : List ℕ)
+    → next_of (stands order interfaces at (bytes ++ more)) ≡ refused reason
 Tells order interfaces bytes (Wanted len) = (length bytes < len) × IsCut order interfaces bytes

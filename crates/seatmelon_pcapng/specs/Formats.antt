@@ -52,17 +52,22 @@ failures_of count (Plain p) = count (peeked.source_of p)
 failures_of count (Converted c) = classics.failures_of c
 
 -- these bytes were given of a file
-abbrev pub HasGiven : {S : Type 0} → (S → Option (List ℕ)) → (S → List ℕ → Type 0) → Capture S → List ℕ → List ℕ → Type 0
+abbrev pub HasGiven : {S : Type 0} → (S → Option (List ℕ)) → (S → List ℕ → Type 0) → Capture S → List ℕ → List ℕ
+    → Type 0
 HasGiven remaining notes (Plain p) file given =
-    peeked.noted_by notes p given × Consumes (Some file) (peeked.left_in remaining p) given × (begins_pcapng file ≡ false)
-HasGiven remaining notes (Converted c) file given = giving.Gives (peeked.left_in remaining) (peeked.noted_by notes) c file given × (begins_pcapng file ≡ true)
+    peeked.noted_by notes p given × Consumes (Some file) (peeked.left_in remaining p) given
+    × (begins_pcapng file ≡ false)
+HasGiven remaining notes (Converted c) file given =
+    giving.Gives (peeked.left_in remaining) (peeked.noted_by notes) c file given × (begins_pcapng file ≡ true)
 
 -- a file was told, and these bytes were given of it
 abbrev pub noted_by : {S : Type 0} → (S → Option (List ℕ)) → (S → List ℕ → Type 0) → Capture S → List ℕ → Type 0
-noted_by remaining notes c told = (file : List ℕ) × (given : List ℕ) × (told ≡ told_as file ++ given) × HasGiven remaining notes c file given
+noted_by remaining notes c told = (file : List ℕ) × (given : List ℕ) × (told ≡ told_as file ++ given)
+    × HasGiven remaining notes c file given
 
 -- what was read of a file passed the source below, which has noted it, and these bytes of its capture were given
-pub record Gives {S : Type 0} (remaining : S → Option (List ℕ)) (notes : S → List ℕ → Type 0) (c : Capture S) (file given : List ℕ) : Type 0 where
+pub record Gives {S : Type 0} (remaining : S → Option (List ℕ)) (notes : S → List ℕ
+    → Type 0) (c : Capture S) (file given : List ℕ) : Type 0 where
   pub read : List ℕ
   pub noted : notes (source_of c) read
   pub passed : Consumes (Some file) (remaining (source_of c)) read

@@ -1,5 +1,6 @@
 -- What a section describes of an interface.
-use Rattle.std.specs.Prelude.{ℕ, zero, suc, ◌+◌, ◌*◌, ◌/◌, ◌-◌, ◌==◌, ◌||◌, List, [], ◌∷◌, length, take, drop, slice_range, nat_lt, Option, None, Some, if◌then◌else◌}
+use Rattle.std.specs.Prelude.{ℕ, zero, suc, ◌+◌, ◌*◌, ◌/◌, ◌-◌, ◌==◌, ◌||◌, List, [], ◌∷◌, length, take, drop}
+use Rattle.std.specs.Prelude.{slice_range, nat_lt, Option, None, Some, if◌then◌else◌}
 use Rattle.seatmelon_pcapng.specs.Orders.{field, number_in}
 use Rattle.seatmelon_pcapng.specs.declared.interface.Interface.{Interface}
 use Rattle.seatmelon_pcapng.specs.declared.order.Order.{Order}

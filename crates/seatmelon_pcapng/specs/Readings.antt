@@ -1,5 +1,6 @@
 -- The packets that a file holds, and the classic capture of them.
-use Rattle.std.specs.Prelude.{ℕ, zero, suc, ◌+◌, ◌-◌, ◌%◌, ◌^◌, ◌≤◌, ◌==◌, List, [], ◌∷◌, ◌++◌, length, take, drop, slice_range, nat_lt, Option, None, Some, Result, Ok, Err, if◌then◌else◌, ⊤}
+use Rattle.std.specs.Prelude.{ℕ, zero, suc, ◌+◌, ◌-◌, ◌%◌, ◌^◌, ◌≤◌, ◌==◌, List, [], ◌∷◌, ◌++◌, length, take, drop}
+use Rattle.std.specs.Prelude.{slice_range, nat_lt, Option, None, Some, Result, Ok, Err, if◌then◌else◌, ⊤}
 use Rattle.std.specs.List.{flat_map}
 use Rattle.std.specs.Option.{option_or}
 use Rattle.byteorder.specs.Endian.{little_bytes}
@@ -29,7 +30,8 @@ EndsWithin len turns.Other = ⊤
 
 -- ---- from block to block
 
--- where a reading stands: in a section of this byte order, once one has begun, with these interfaces, at this offset, before these bytes
+-- where a reading stands: in a section of this byte order, once one has begun, with these interfaces, at this offset,
+-- before these bytes
 pub record State : Type 0 where
   pub order : Option Order
   pub interfaces : List Interface
@@ -48,7 +50,8 @@ by_turn front (Ok turn) = goes front turn
 
 abbrev pub by_front : State → Result Front Reason → Next
 by_front s (Err reason) = refused reason
-by_front s (Ok front) = if nat_lt (length s.rest) front.len then refused Cut else by_turn front (turn_of s.interfaces front (take front.len s.rest))
+by_front s (Ok front) = if nat_lt (length s.rest) front.len then refused Cut
+    else by_turn front (turn_of s.interfaces front (take front.len s.rest))
 
 abbrev pub next_of : State → Next
 next_of s =
@@ -100,7 +103,8 @@ packets_in block (turns.Packet found) = packet_in block found ∷ []
 packets_in block (turns.Foreign found link_type) = packet_in block found ∷ []
 packets_in block turns.Other = []
 
--- the packets that are read, the refusal that ends them, and the link type of the first of them that isn't one of Ethernet
+-- the packets that are read, the refusal that ends them, and the link type of the first of them that isn't one of
+-- Ethernet
 pub record Reading : Type 0 where
   pub packets : List Packet
   pub refusal : Option Refusal
@@ -108,7 +112,11 @@ pub record Reading : Type 0 where
 
 abbrev pub read_step : State → Next → Reading → Reading
 read_step s ended more = record { packets = []; refusal = None; other = None }
-read_step s (refused reason) more = record { packets = []; refusal = Some (record { reason = reason; at = s.at }); other = None }
+read_step s (refused reason) more = record {
+  packets = [];
+  refusal = Some (record { reason = reason; at = s.at });
+  other = None;
+}
 read_step s (goes front turn) more = record {
   packets = packets_in (take front.len s.rest) turn ++ more.packets;
   refusal = more.refusal;
@@ -143,11 +151,14 @@ behind other remarks = record remarks { other_link_type = option_or other remark
 
 -- version 2.4, nanoseconds, the lowest byte first, no more than 262,144 bytes of a frame, and Ethernet
 abbrev pub header_bytes : List ℕ
-header_bytes = 0x4d ∷ 0x3c ∷ 0xb2 ∷ 0xa1 ∷ 2 ∷ 0 ∷ 4 ∷ 0 ∷ 0 ∷ 0 ∷ 0 ∷ 0 ∷ 0 ∷ 0 ∷ 0 ∷ 0 ∷ 0 ∷ 0 ∷ 4 ∷ 0 ∷ 1 ∷ 0 ∷ 0 ∷ 0 ∷ []
+header_bytes =
+    0x4d ∷ 0x3c ∷ 0xb2 ∷ 0xa1 ∷ 2 ∷ 0 ∷ 4 ∷ 0 ∷ 0 ∷ 0 ∷ 0 ∷ 0 ∷ 0 ∷ 0 ∷ 0 ∷ 0 ∷ 0 ∷ 0 ∷ 4 ∷ 0 ∷ 1 ∷ 0 ∷ 0 ∷ 0 ∷ []
 
 -- the header of a record
 abbrev pub front_bytes : Packet → List ℕ
-front_bytes p = little_bytes 4 p.seconds ++ (little_bytes 4 p.nanoseconds ++ (little_bytes 4 (length p.bytes) ++ little_bytes 4 p.original))
+front_bytes p =
+    little_bytes 4 p.seconds
+    ++ (little_bytes 4 p.nanoseconds ++ (little_bytes 4 (length p.bytes) ++ little_bytes 4 p.original))
 
 -- the same by where its frame stands in its block
 abbrev pub front_by : Found → List ℕ

@@ -1,7 +1,7 @@
 //! What the classic captures hold that pcapng files are read as.
 ghost use Rattle.std.specs.Prelude.{◌≡◌, ◌+◌, ◌<◌, ◌≤◌, ℕ, List, ◌++◌, length, map, None, Some};
 ghost use Rattle.std.specs.Io.KnownBytes.{IsAtEnd};
-ghost use Rattle.rasta_pcap.specs.Capture.{IsCapture, IsRefused, max_records};
+ghost use Rattle.rasta_pcap.specs.Capture.{IsCapture, IsRefusedFile, max_records};
 ghost use Rattle.rasta_pcap.specs.Fault.{cut_record, fault_at};
 ghost use Rattle.seatmelon_pcapng.specs.Classics.{left_in, refusal_in};
 ghost use Rattle.seatmelon_pcapng.specs.Formats as formats;
@@ -22,7 +22,7 @@ pub fn converted_is_capture()
 /// That of a file that is refused has the packets before as records, and ends inside the next.
 pub fn refused_is_cut()
     ensures { (file : List ℕ) (refusal : Refusal) → (reading_of file).refusal ≡ Some refusal → length (reading_of file).packets < max_records
-        → IsRefused max_records (classic_of (reading_of file)) (map (λ (p : Packet). p.bytes) (reading_of file).packets)
+        → IsRefusedFile max_records (classic_of (reading_of file)) (map (λ (p : Packet). p.bytes) (reading_of file).packets)
         (fault_at cut_record (length (reading_of file).packets + 1)) }
 {}
 

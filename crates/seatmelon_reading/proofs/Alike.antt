@@ -5,7 +5,7 @@ use Rattle.std.proofs.lemmas.List.{drop-drop, drop_at, get_or-drop, length-appen
 use Rattle.byteorder.specs.Endian.{big_number}
 use Rattle.rasta_pcap.specs.declared.fault.Fault.{Fault}
 use Rattle.rasta_udp.specs.declared.channel.Channel.{Channel}
-use Rattle.rasta_udp.specs.Frame.{Fields, Found, datagram_of, fields_of, found_by, header_length_of, is_tagged, map_found, moved_on, number_at, packet_at, packet_in, untagged_of, without_tag}
+use Rattle.rasta_udp.specs.Frame.{Fields, Found, datagram_of, fields_of, found_by, header_length_of, is_tagged, map_found, moved_on, big_at, packet_at, packet_in, untagged_of, without_tag}
 use Rattle.seatmelon_reading.specs.PassedOver.{has_outer_tag, is_behind_tag, is_of_channels}
 
 -- as long, and the same from byte 12 on
@@ -19,8 +19,8 @@ module _ (x y : List ℕ) (alike : AreAlike x y) where
       let e : 12 + (n - 12) ≡ n = omega arith in
       subst (λ m. drop m x ≡ drop m y) e (sym (drop-drop (n - 12) 12 x) ∙ ap (drop (n - 12)) alike.rest ∙ drop-drop (n - 12) 12 y)
 
-  number_alike : (m n : ℕ) → 12 ≤ n → number_at m n x ≡ number_at m n y
-  unfolding number_at
+  number_alike : (m n : ℕ) → 12 ≤ n → big_at m n x ≡ big_at m n y
+  unfolding big_at
   number_alike m n h = ap (big_number m) (drop_alike n h)
 
   byte_alike : (n : ℕ) → 12 ≤ n → get_or x n 0 ≡ get_or y n 0
@@ -33,22 +33,22 @@ module _ (x y : List ℕ) (alike : AreAlike x y) where
       let size : length x ≡ length y = alike.sized in
       let first : get_or x 14 0 ≡ get_or y 14 0 = byte_alike 14 (omega arith) in
       let protocol : get_or x 23 0 ≡ get_or y 23 0 = byte_alike 23 (omega arith) in
-      let n12 : number_at 2 12 x ≡ number_at 2 12 y = number_alike 2 12 (omega arith) in
-      let n16 : number_at 2 16 x ≡ number_at 2 16 y = number_alike 2 16 (omega arith) in
-      let n20 : number_at 2 20 x ≡ number_at 2 20 y = number_alike 2 20 (omega arith) in
-      let n26 : number_at 4 26 x ≡ number_at 4 26 y = number_alike 4 26 (omega arith) in
-      let n30 : number_at 4 30 x ≡ number_at 4 30 y = number_alike 4 30 (omega arith) in
+      let n12 : big_at 2 12 x ≡ big_at 2 12 y = number_alike 2 12 (omega arith) in
+      let n16 : big_at 2 16 x ≡ big_at 2 16 y = number_alike 2 16 (omega arith) in
+      let n20 : big_at 2 20 x ≡ big_at 2 20 y = number_alike 2 20 (omega arith) in
+      let n26 : big_at 4 26 x ≡ big_at 4 26 y = number_alike 4 26 (omega arith) in
+      let n30 : big_at 4 30 x ≡ big_at 4 30 y = number_alike 4 30 (omega arith) in
       let h = header_length_of x in
-      let p14 : number_at 2 (14 + h) x ≡ number_at 2 (14 + h) y = number_alike 2 (14 + h) (omega arith) in
-      let p16 : number_at 2 (16 + h) x ≡ number_at 2 (16 + h) y = number_alike 2 (16 + h) (omega arith) in
-      let p18 : number_at 2 (18 + h) x ≡ number_at 2 (18 + h) y = number_alike 2 (18 + h) (omega arith) in
+      let p14 : big_at 2 (14 + h) x ≡ big_at 2 (14 + h) y = number_alike 2 (14 + h) (omega arith) in
+      let p16 : big_at 2 (16 + h) x ≡ big_at 2 (16 + h) y = number_alike 2 (16 + h) (omega arith) in
+      let p18 : big_at 2 (18 + h) x ≡ big_at 2 (18 + h) y = number_alike 2 (18 + h) (omega arith) in
       cc
 
   tagged_alike : is_tagged x ≡ is_tagged y
-  tagged_alike = ap (λ n. nat_le 16 n && number_at 2 12 x == 0x8100) alike.sized ∙ ap (λ n. nat_le 16 (length y) && n == 0x8100) (number_alike 2 12 (omega arith))
+  tagged_alike = ap (λ n. nat_le 16 n && big_at 2 12 x == 0x8100) alike.sized ∙ ap (λ n. nat_le 16 (length y) && n == 0x8100) (number_alike 2 12 (omega arith))
 
   pub outer_alike : has_outer_tag x ≡ has_outer_tag y
-  outer_alike = ap (λ n. nat_le 16 n && (number_at 2 12 x == 0x8100 || number_at 2 12 x == 0x88a8)) alike.sized
+  outer_alike = ap (λ n. nat_le 16 n && (big_at 2 12 x == 0x8100 || big_at 2 12 x == 0x88a8)) alike.sized
       ∙ ap (λ n. nat_le 16 (length y) && (n == 0x8100 || n == 0x88a8)) (number_alike 2 12 (omega arith))
 
 -- a frame without its tag

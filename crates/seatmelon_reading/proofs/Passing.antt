@@ -11,7 +11,7 @@ use Rattle.rasta_pcap.specs.declared.fault.Side.TheVariants.{Client, Server}
 use Rattle.rasta_pcap.specs.declared.pcap.Endianness.{Endianness}
 use Rattle.rasta_pcap.specs.declared.time.CaptureTime.{CaptureTime}
 use Rattle.rasta_pcap.specs.declared.time.FractionUnit.{FractionUnit}
-use Rattle.rasta_pcap.specs.Capture.{Cursor, Numbered, cursor_after, cursor_at, max_records, next, opening, reading, reading_of, with_record}
+use Rattle.rasta_pcap.specs.Capture.{FileCursor, Numbered, cursor_after, cursor_at, max_records, next, opening, reading, reading_of, with_record}
 use Rattle.rasta_pcap.specs.Capture as captures
 use Rattle.rasta_pcap.specs.Captured.{Captured, captured_at, captured_from, captured_in, numbered}
 use Rattle.rasta_pcap.specs.Times.{TellsTime, TellsUnit, unit_of}
@@ -23,8 +23,9 @@ use Rattle.rasta_pcap.specs.declared.stream.RecordReader.{RecordReader}
 use Rattle.rasta_pcap.specs.Stream.{FailsWithin, LacksMemory, MeetsEnd, Opens, ReadsRecord, RefusesHeader, RefusesRecord, count_in, order_in, room_in, unit_in}
 use Rattle.rasta_udp.specs.Frame.{Packet, packet_in}
 use Rattle.rasta_pdu.specs.Params.{Parameters}
-use Rattle.rasta_check.specs.Capture.Crossing.{FirstCopy}
-use Rattle.rasta_check.specs.Capture.Reading.{Crossing, after_frame, after_packet, after_reading, after_record, after_records, and_then, crossing_with, nothing_crossed}
+use Rattle.rasta_check.specs.Capture.SentLists.{FirstCopy}
+use Rattle.rasta_check.specs.Capture.Crossing.{Crossing, nothing_crossed}
+use Rattle.rasta_check.specs.Capture.Reading.{after_frame, after_packet, after_reading, after_record, after_records, then_crossing, crossing_with}
 use Rattle.rasta_check.specs.Capture.Reading as crossings
 use Rattle.rasta_check.specs.Capture.Building.{crossed_in}
 use Rattle.rasta_check.specs.declared.passage.Passage.{Passage}
@@ -63,7 +64,7 @@ within_params false k n f e = absurd cc
 judged_params : (o : Option ℕ) (k n : Crossing) (number : ℕ) (packet : Packet) → crossings.after_judged k number packet o ≡ ok n → n.params ≡ k.params
 judged_params (Some fault) k n number packet e = absurd cc
 judged_params None k n number packet e =
-    within_params (crossings.is_within (crossings.with_packet k packet)) (crossings.with_packet k packet) n _ e
+    within_params (crossings.keeps_limits (crossings.with_packet k packet)) (crossings.with_packet k packet) n _ e
     ∙ with_params k packet packet.side (crossings.sent_after k packet)
 
 frame_params : (found : Result (Option Packet) Fault) (k n : Crossing) (number : ℕ) → after_frame k number found ≡ ok n → n.params ≡ k.params
@@ -117,22 +118,22 @@ none_left without (Err fault) order rest count = refl
 none_left without (Ok k) order rest count = refl
 
 -- what crosses by the records after the next one
-abbrev more_left : List ℕ → ℕ → Cursor → Crossing → Standing
+abbrev more_left : List ℕ → ℕ → FileCursor → Crossing → Standing
 more_left without left c n = after_reading n (reading_without without (reading left c))
 
 filtered_first : (without : List ℕ) (k : Crossing) (r : Numbered) (more : captures.Reading) (left_out : Bool) → is_left_out without r.0 ≡ left_out
-    → after_reading k (reading_without without (with_record r more)) ≡ and_then (cond left_out (ok k) (after_record k r)) (λ (n : Crossing). after_reading n (reading_without without more))
+    → after_reading k (reading_without without (with_record r more)) ≡ then_crossing (cond left_out (ok k) (after_record k r)) (λ (n : Crossing). after_reading n (reading_without without more))
 unfolding after_records
 filtered_first without k r more true e = ap (λ b. after_records k (cond (not b) (r ∷ (reading_without without more).records) (reading_without without more).records) more.fault) e
 filtered_first without k r more false e = ap (λ b. after_records k (cond (not b) (r ∷ (reading_without without more).records) (reading_without without more).records) more.fault) e
 
-next_left : (without : List ℕ) (k : Crossing) (left : ℕ) (c : Cursor) (r : Numbered) → next c ≡ Ok (Some r)
-    → after_reading k (reading_without without (reading (suc left) c)) ≡ and_then (cond (is_left_out without r.0) (ok k) (after_record k r)) (more_left without left (cursor_after c))
+next_left : (without : List ℕ) (k : Crossing) (left : ℕ) (c : FileCursor) (r : Numbered) → next c ≡ Ok (Some r)
+    → after_reading k (reading_without without (reading (suc left) c)) ≡ then_crossing (cond (is_left_out without r.0) (ok k) (after_record k r)) (more_left without left (cursor_after c))
 next_left without k left c r is =
     ap (λ (g : captures.Reading). after_reading k (reading_without without g)) (reading-record left c r is) ∙ filtered_first without k r (reading left (cursor_after c)) (is_left_out without r.0) refl
 
 and_then_left : (without : List ℕ) (standing : Standing) (left : ℕ) (order : Endianness) (rest : List ℕ) (count : ℕ)
-    → outcome_left without standing left order rest count ≡ and_then standing (more_left without left (cursor_at order rest count))
+    → outcome_left without standing left order rest count ≡ then_crossing standing (more_left without left (cursor_at order rest count))
 and_then_left without (Err f) left order rest count = refl
 and_then_left without (Ok k) left order rest count = refl
 
@@ -159,7 +160,7 @@ step_inside : (without : List ℕ) (standing : Standing) (left : ℕ) (order : E
 step_inside without (Err f) left order rest more count r is after = refl
 step_inside without (Ok k) left order rest more count r is after =
     and_then_left without (stepped without (Ok k) r) left order more r.0
-    ∙ ap (λ c. and_then (stepped without (Ok k) r) (more_left without left c)) (sym after)
+    ∙ ap (λ c. then_crossing (stepped without (Ok k) r) (more_left without left c)) (sym after)
     ∙ sym (next_left without k left (cursor_at order rest count) r is)
 
 -- so many records are left

@@ -5,7 +5,7 @@ use Rattle.rasta_pcap.specs.declared.fault.Fault.{Fault}
 use Rattle.rasta_pcap.specs.Captured.{Captured, captured_in}
 use Rattle.rasta_pdu.specs.Params.{Parameters}
 use Rattle.rasta_check.specs.Capture.Building.{crossed_in}
-use Rattle.rasta_check.specs.Capture.Reading.{Crossing, nothing_crossed}
+use Rattle.rasta_check.specs.Capture.Crossing.{Crossing, nothing_crossed}
 use Rattle.seatmelon_capture.specs.Header.{header_in}
 use Rattle.seatmelon_capture.specs.declared.header.FileHeader.{FileHeader}
 use Rattle.seatmelon_pcapng.specs.Formats.{capture_of, format_of}

@@ -8,7 +8,8 @@ use Rattle.rasta_pcap.specs.declared.fault.Fault.{Fault}
 use Rattle.rasta_pcap.specs.Capture.{Numbered}
 use Rattle.rasta_pcap.specs.Captured.{Captured, numbered}
 use Rattle.rasta_pdu.specs.Params.{Parameters}
-use Rattle.rasta_check.specs.Capture.Reading.{Crossing, after_record, after_records, and_then, nothing_crossed}
+use Rattle.rasta_check.specs.Capture.Crossing.{Crossing, nothing_crossed}
+use Rattle.rasta_check.specs.Capture.Reading.{after_record, after_records, then_crossing}
 use Rattle.seatmelon_reading.specs.Noted.{is_left_out}
 use Rattle.seatmelon_reading.specs.Reading.{HasCrossed, HaveCrossed, after_end, after_next, judged_of, records_before, standing_with, stays}
 use Rattle.seatmelon_reading.specs.Told.{AreLower}
@@ -32,16 +33,16 @@ same_fault f g e = cc
 
 -- ---- one record more
 
-then_ok : (s : Standing) → and_then s ok ≡ s
+then_ok : (s : Standing) → then_crossing s ok ≡ s
 then_ok (Ok k) = refl
 then_ok (Err f) = refl
 
-more_pushed : (s : Standing) (rs : List Numbered) (r : Numbered) → ((k : Crossing) → after_records k (rs ++ r ∷ []) None ≡ and_then (after_records k rs None) (λ n. after_record n r))
-    → and_then s (λ n. after_records n (rs ++ r ∷ []) None) ≡ and_then (and_then s (λ n. after_records n rs None)) (λ n. after_record n r)
+more_pushed : (s : Standing) (rs : List Numbered) (r : Numbered) → ((k : Crossing) → after_records k (rs ++ r ∷ []) None ≡ then_crossing (after_records k rs None) (λ n. after_record n r))
+    → then_crossing s (λ n. after_records n (rs ++ r ∷ []) None) ≡ then_crossing (then_crossing s (λ n. after_records n rs None)) (λ n. after_record n r)
 more_pushed (Ok k) rs r same = same k
 more_pushed (Err f) rs r same = refl
 
-pushed : (k : Crossing) (rs : List Numbered) (r : Numbered) → after_records k (rs ++ r ∷ []) None ≡ and_then (after_records k rs None) (λ n. after_record n r)
+pushed : (k : Crossing) (rs : List Numbered) (r : Numbered) → after_records k (rs ++ r ∷ []) None ≡ then_crossing (after_records k rs None) (λ n. after_record n r)
 unfolding after_records
 pushed k [] r = then_ok (after_record k r)
 pushed k (x ∷ rs) r = more_pushed (after_record k x) rs r (λ n. pushed n rs r)
@@ -63,7 +64,7 @@ module _ (p : Parameters) (without : List ℕ) (done : List Captured) (q : Captu
   taken_in : (k n : Crossing) → is_judged ≡ true → HaveCrossed p without done k → after_record k (numbered q) ≡ Ok n → HaveCrossed p without (done ++ q ∷ []) n
   taken_in k n judged before is = ap (λ l. after_records (nothing_crossed p) l None)
       (judged_push ∙ ap (λ b. judged_of p without done ++ cond b (numbered q ∷ []) []) judged)
-      ∙ pushed (nothing_crossed p) (judged_of p without done) (numbered q) ∙ ap (λ s. and_then s (λ m. after_record m (numbered q))) before ∙ is
+      ∙ pushed (nothing_crossed p) (judged_of p without done) (numbered q) ∙ ap (λ s. then_crossing s (λ m. after_record m (numbered q))) before ∙ is
 
 -- ---- the records before a place
 

@@ -13,8 +13,9 @@ use Rattle.rasta_pcap.specs.Capture.{Numbered}
 use Rattle.rasta_pcap.specs.Captured.{Captured, numbered}
 use Rattle.rasta_udp.specs.Frame.{Packet, packet_in}
 use Rattle.rasta_pdu.specs.Params.{Parameters}
-use Rattle.rasta_check.specs.Capture.Crossing.{packet_fault}
-use Rattle.rasta_check.specs.Capture.Reading.{Crossing, packet_found, after_frame, after_judged, after_packet, after_record, is_within, sent_by, with_packet}
+use Rattle.rasta_check.specs.Capture.PacketFaults.{packet_fault}
+use Rattle.rasta_check.specs.Capture.Crossing.{Crossing, sent_by}
+use Rattle.rasta_check.specs.Capture.Reading.{packet_found, after_frame, after_judged, after_packet, after_record, keeps_limits, with_packet}
 use Rattle.seatmelon_reading.specs.Codes.{codes_from, codes_next, codes_of, own_codes}
 use Rattle.seatmelon_reading.specs.Noted.{AreNotes, Seen, all_seen, is_before, is_inside, is_left_out, seen_by, seen_in, seen_inside, sighting_of}
 use Rattle.seatmelon_reading.specs.Told.{AreBefore, AreLower, IsMadeOf, IsSighted, IsTrueOf, TellsStill}
@@ -43,7 +44,7 @@ limits_place number k false f e = err_place (fault_at too_many number) f e
 
 judged_place : (k : Crossing) (number : ℕ) (packet : Packet) (fault : Option ℕ) (f : Fault) → after_judged k number packet fault ≡ Err f → f.place ≡ number
 judged_place k number packet (Some n) f e = err_place _ f e
-judged_place k number packet None f e = limits_place number (with_packet k packet) (is_within (with_packet k packet)) f e
+judged_place k number packet None f e = limits_place number (with_packet k packet) (keeps_limits (with_packet k packet)) f e
 
 frame_place : (k : Crossing) (number : ℕ) (o : Result (Option Packet) Fault) (f : Fault) → after_frame k number o ≡ Err f → f.place ≡ number
 unfolding after_packet

@@ -1,5 +1,6 @@
 -- Safety codes of the packets of a connection from a refused one on.
-use Rattle.std.specs.Prelude.{ℕ, ◌+◌, ◌==◌, List, length, filter, nat_le, Bool, true, false, Option, None, Some, Result, Ok, Err, if◌then◌else◌}
+use Rattle.std.specs.Prelude.{ℕ, ◌+◌, ◌==◌, List, length, filter, nat_le, Bool, true, false, Option, None, Some, Result}
+use Rattle.std.specs.Prelude.{Ok, Err, if◌then◌else◌}
 use Rattle.rasta_pcap.specs.declared.fault.Fault.{Fault}
 use Rattle.rasta_pcap.specs.declared.time.CaptureTime.{CaptureTime}
 use Rattle.rasta_udp.specs.Frame.{Packet, packet_in}
@@ -11,7 +12,8 @@ use Rattle.seatmelon_reading.specs.declared.code_count.CodeCount.{CodeCount}
 use Rattle.seatmelon_reading.specs.declared.code_count.CodeFit.{CodeFit}
 use Rattle.seatmelon_reading.specs.declared.code_count.CodeFit.TheVariants.{NotJudged, Wrong, Fits}
 
--- a PDU that is read has the code that is due; one whose code is wrong is refused by 25, and only the ids, by 26, are judged after it
+-- a PDU that is read has the code that is due; one whose code is wrong is refused by 25, and only the ids, by 26, are
+-- judged after it
 abbrev pub fit_of_reading : Result RedundancyPdu Fault → CodeFit
 fit_of_reading (Ok pdu) = Fits
 fit_of_reading (Err f) = if f.number == 25 then Wrong else if f.number == 26 then Fits else NotJudged
@@ -44,7 +46,10 @@ seen_from number seen = filter (λ (s : Seen). nat_le number s.captured.number) 
 
 -- the codes of these packets from this record on
 abbrev pub codes_from : Parameters → ℕ → List Seen → CodeCount
-codes_from p number seen = record { judged = length (filter (has_judged p) (seen_from number seen)); fitting = length (filter (has_fitting p) (seen_from number seen)) }
+codes_from p number seen = record {
+  judged = length (filter (has_judged p) (seen_from number seen));
+  fitting = length (filter (has_fitting p) (seen_from number seen));
+}
 
 -- ---- on the way
 

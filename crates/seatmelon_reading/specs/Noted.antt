@@ -1,5 +1,6 @@
 -- What is noted of a capture's records, where some are left out.
-use Rattle.std.specs.Prelude.{◌≡◌, ℕ, ◌+◌, List, [], ◌∷◌, length, map, filter, filter_map, nat_eq, nat_le, nat_lt, not, ◌&&◌, Bool, true, false, Option, None, Some, Result, Ok, Err, option_map, if◌then◌else◌}
+use Rattle.std.specs.Prelude.{◌≡◌, ℕ, ◌+◌, List, [], ◌∷◌, length, map, filter, filter_map, nat_eq, nat_le, nat_lt, not}
+use Rattle.std.specs.Prelude.{◌&&◌, Bool, true, false, Option, None, Some, Result, Ok, Err, option_map, if◌then◌else◌}
 use Rattle.std.specs.List.{list_any}
 use Rattle.rasta_pcap.specs.declared.fault.Fault.{Fault}
 use Rattle.rasta_pcap.specs.declared.fault.Side.{Side}
@@ -17,7 +18,8 @@ use Rattle.seatmelon_reading.specs.declared.notes.Notes.{Notes}
 use Rattle.seatmelon_reading.specs.declared.notes.Sighting.{Sighting}
 use Rattle.seatmelon_reading.specs.declared.passed_over.PassedOver.{PassedOver}
 use Rattle.seatmelon_reading.specs.declared.passed_over.WhyPassed.{WhyPassed}
-use Rattle.seatmelon_reading.specs.declared.passed_over.WhyPassed.TheVariants.{LeftOut, NotUdp, Tagged, Elsewhere, Unreadable}
+use Rattle.seatmelon_reading.specs.declared.passed_over.WhyPassed.TheVariants.{LeftOut, NotUdp, Tagged, Elsewhere}
+use Rattle.seatmelon_reading.specs.declared.passed_over.WhyPassed.TheVariants.{Unreadable}
 
 -- a packet of the recorded channels, and the record that holds it
 pub record Seen : Type 0 where
@@ -39,7 +41,8 @@ seen_in p without r = if is_left_out without r.number then None else seen_by r (
 
 -- why a record is passed over; none where it holds a packet of the recorded channels
 abbrev pub why_passed : Parameters → List ℕ → Captured → Option WhyPassed
-why_passed p without r = if is_left_out without r.number then Some LeftOut else why_by p.channels r.bytes (packet_in p.channels r.bytes)
+why_passed p without r = if is_left_out without r.number then Some LeftOut
+    else why_by p.channels r.bytes (packet_in p.channels r.bytes)
 
 -- where it crossed
 abbrev pub passage_seen : Option Seen → Option Passage
@@ -64,7 +67,12 @@ seen_inside p without records = filter (is_inside p) (all_seen p without records
 
 -- record, time, channel and sender of a packet
 abbrev pub sighting_of : Bool → Seen → Sighting
-sighting_of zero s = record { «record» = s.captured.number; time = time_of zero s.captured; channel = s.packet.channel; sender = s.packet.side }
+sighting_of zero s = record {
+  «record» = s.captured.number;
+  time = time_of zero s.captured;
+  channel = s.packet.channel;
+  sender = s.packet.side;
+}
 
 abbrev pub is_client : Side → Bool
 is_client Client = true
@@ -79,7 +87,10 @@ is_servers channel s = nat_eq s.packet.channel channel && not (is_client s.packe
 
 -- how many of these packets each end sent on a channel
 abbrev pub count_on : List Seen → ℕ → ChannelCount
-count_on seen channel = record { client = length (filter (is_clients channel) seen); server = length (filter (is_servers channel) seen) }
+count_on seen channel = record {
+  client = length (filter (is_clients channel) seen);
+  server = length (filter (is_servers channel) seen);
+}
 
 -- with one packet more of this end
 abbrev pub count_with : ChannelCount → Side → ChannelCount

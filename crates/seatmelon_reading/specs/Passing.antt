@@ -1,5 +1,6 @@
 -- The reading of a known file on its way.
-use Rattle.std.specs.Prelude.{◌≡◌, ℕ, suc, ◌-◌, ◌≤◌, List, [], ◌++◌, length, Bool, true, false, Option, Some, Result, Ok, Err, ⊤}
+use Rattle.std.specs.Prelude.{◌≡◌, ℕ, suc, ◌-◌, ◌≤◌, List, [], ◌++◌, length, Bool, true, false, Option, Some, Result}
+use Rattle.std.specs.Prelude.{Ok, Err, ⊤}
 use Rattle.std.specs.Option.{ForSome}
 use Rattle.rasta_pcap.specs.declared.fault.Fault.{Fault}
 use Rattle.rasta_pcap.specs.declared.pcap.Endianness.{Endianness}
@@ -10,14 +11,16 @@ use Rattle.rasta_pcap.specs.Capture.{cursor_at, max_records, reading}
 use Rattle.rasta_pcap.specs.Captured.{Captured, captured_from, captured_in}
 use Rattle.rasta_pcap.specs.Stream.{count_in, order_in, progress_of, unit_in}
 use Rattle.rasta_pdu.specs.Params.{Parameters}
-use Rattle.rasta_check.specs.Capture.Reading.{Crossing, after_reading, nothing_crossed}
+use Rattle.rasta_check.specs.Capture.Crossing.{Crossing, nothing_crossed}
+use Rattle.rasta_check.specs.Capture.Reading.{after_reading}
 use Rattle.seatmelon_reading.specs.Noted.{AreNotes}
 use Rattle.rasta_check.specs.Capture.Building.{crossed_in}
 use Rattle.seatmelon_reading.specs.Reading.{HasCrossed, crossing_without, reading_without, standing_in}
 use Rattle.seatmelon_reading.specs.Told.{AreLower, IsTrueOf}
 use Rattle.seatmelon_reading.specs.declared.pass.Pass.{Pass}
 
--- what is to be read: whether a time of 0 is none, by these parameters, without these records, what crosses, and what was captured
+-- what is to be read: whether a time of 0 is none, by these parameters, without these records, what crosses, and what
+-- was captured
 pub record Whole : Type 0 where
   pub zero : Bool
   pub params : Parameters
@@ -26,15 +29,24 @@ pub record Whole : Type 0 where
   pub captured : List Captured
 
 abbrev pub whole_of : Bool → Parameters → List ℕ → List ℕ → Whole
-whole_of zero p without file = record { zero = zero; params = p; without = without; crossed = crossing_without p without file; captured = captured_in file }
+whole_of zero p without file = record {
+  zero = zero;
+  params = p;
+  without = without;
+  crossed = crossing_without p without file;
+  captured = captured_in file;
+}
 
 -- what crosses by at most so many more records, where this stands so far
 abbrev pub outcome_left : List ℕ → Result Crossing Fault → ℕ → Endianness → List ℕ → ℕ → Result Crossing Fault
 outcome_left without (Err fault) left order rest count = Err fault
-outcome_left without (Ok k) left order rest count = after_reading k (reading_without without (reading left (cursor_at order rest count)))
+outcome_left without (Ok k) left order rest count =
+    after_reading k (reading_without without (reading left (cursor_at order rest count)))
 
--- after so many records: what crosses by the whole file crosses by the rest, and what is noted is noted of the records so far
-pub record IsOnWay (w : Whole) (order : Endianness) (unit : FractionUnit) (count : ℕ) (rest : List ℕ) (pass : Pass) : Type 0 where
+-- after so many records: what crosses by the whole file crosses by the rest, and what is noted is noted of the records
+-- so far
+pub record IsOnWay (w : Whole) (order : Endianness) (unit : FractionUnit) (count : ℕ) (rest : List ℕ)
+    (pass : Pass) : Type 0 where
   pub zero : pass.notes.zero_is_no_time ≡ w.zero
   pub params : pass.params ≡ w.params
   pub without : pass.without.now ≡ w.without
@@ -59,7 +71,8 @@ pub record IsThrough (w : Whole) (pass : Pass) : Type 0 where
 
 -- the input is known, and a reader stands so on the way
 abbrev pub ReaderOnWay : Whole → RecordReader → Option (List ℕ) → Pass → Type 0
-ReaderOnWay w records input pass = (rest : List ℕ) × (input ≡ Some rest) × IsOnWay w (order_in records) (unit_in records) (count_in records) rest pass
+ReaderOnWay w records input pass = (rest : List ℕ) × (input ≡ Some rest)
+    × IsOnWay w (order_in records) (unit_in records) (count_in records) rest pass
 
 -- after one more record it is on the way, and where there was none it is through
 abbrev pub StepsTo : Bool → Whole → RecordReader → Option (List ℕ) → Pass → Type 0

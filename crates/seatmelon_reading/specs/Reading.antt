@@ -1,5 +1,6 @@
 -- What a reading of a capture says of its file, where some records are left out.
-use Rattle.std.specs.Prelude.{◌≡◌, ◌≢◌, ⊤, ℕ, ◌&&◌, List, take, filter, map, not, nat_le, nat_lt, Bool, Option, None, Some, Result, Ok, Err, if◌then◌else◌}
+use Rattle.std.specs.Prelude.{◌≡◌, ◌≢◌, ⊤, ℕ, ◌&&◌, List, take, filter, map, not, nat_le, nat_lt, Bool, Option, None}
+use Rattle.std.specs.Prelude.{Some, Result, Ok, Err, if◌then◌else◌}
 use Rattle.sha2.specs.Sha256.{sha256}
 use Rattle.std.specs.Option.{ForSome}
 use Rattle.rasta_pcap.specs.declared.fault.Fault.{Fault}
@@ -9,7 +10,8 @@ use Rattle.rasta_pcap.specs.Captured.{Captured, captured_in, numbered}
 use Rattle.rasta_pcap.specs.Fault.{no_memory, read_failed}
 use Rattle.rasta_pdu.specs.Params.{Parameters}
 use Rattle.rasta_check.specs.Capture.Building.{crossed_in}
-use Rattle.rasta_check.specs.Capture.Reading.{Crossing, after_reading, after_record, after_records, nothing_crossed}
+use Rattle.rasta_check.specs.Capture.Crossing.{Crossing, nothing_crossed}
+use Rattle.rasta_check.specs.Capture.Reading.{after_reading, after_record, after_records}
 use Rattle.seatmelon_capture.specs.Header.{header_in}
 use Rattle.seatmelon_pcapng.specs.Formats.{capture_of, format_of}
 use Rattle.seatmelon_pcapng.specs.Peeked.{begins_pcapng}
@@ -28,7 +30,8 @@ reading_without without r = record { records = filter (stays without) r.records;
 
 -- what crossed by the records of a file that stay, up to the last record of the window, or the first fault
 abbrev pub crossing_without : Parameters → List ℕ → List ℕ → Result Crossing Fault
-crossing_without p without file = after_reading (nothing_crossed p) (reading_without without (reading_of p.last_record file))
+crossing_without p without file =
+    after_reading (nothing_crossed p) (reading_without without (reading_of p.last_record file))
 
 -- ---- on the way
 
@@ -69,7 +72,8 @@ pub record IsSameBut (old new : Pass) : Type 0 where
 
 -- the records that stay, up to the last of the window
 abbrev pub judged_of : Parameters → List ℕ → List Captured → List Numbered
-judged_of p without records = filter (λ (r : Numbered). stays without r && nat_le r.0 p.last_record) (map numbered records)
+judged_of p without records =
+    filter (λ (r : Numbered). stays without r && nat_le r.0 p.last_record) (map numbered records)
 
 -- the packets of these records are those that crossed
 abbrev pub HaveCrossed : Parameters → List ℕ → List Captured → Crossing → Type 0

@@ -13,7 +13,10 @@ abbrev pub numbered_with : ℕ → Packet → NumberedPacket
 numbered_with number packet = record { number = number; packet = packet }
 
 abbrev pub taped_as : Taped → NumberedPacket
-taped_as t = record { number = t.«record»; packet = record { channel = t.channel; side = t.sender; payload = t.datagram.items } }
+taped_as t = record {
+  number = t.«record»;
+  packet = record { channel = t.channel; side = t.sender; payload = t.datagram.items };
+}
 
 -- those that are kept, by place
 abbrev pub taped_in : Tape → List NumberedPacket

@@ -1,5 +1,6 @@
 -- What is noted of the times of capture.
-use Rattle.std.specs.Prelude.{◌≡◌, ℕ, ◌==◌, ◌&&◌, ◌||◌, List, [], ◌∷◌, length, map, filter, nat_le, nat_lt, not, Bool, true, false, Option, None, Some, option_map, if◌then◌else◌}
+use Rattle.std.specs.Prelude.{◌≡◌, ℕ, ◌==◌, ◌&&◌, ◌||◌, List, [], ◌∷◌, length, map, filter, nat_le, nat_lt, not, Bool}
+use Rattle.std.specs.Prelude.{true, false, Option, None, Some, option_map, if◌then◌else◌}
 use Rattle.std.specs.List.{last_or, zip}
 use Rattle.rasta_pcap.specs.declared.time.CaptureTime.{CaptureTime}
 use Rattle.rasta_pcap.specs.declared.time.FractionUnit.{FractionUnit}

@@ -27,10 +27,11 @@ pub record IsCapturedAt (records : List Captured) (r : CaptureRefusal) (time : C
 abbrev pub IsSighted : Bool → Parameters → List ℕ → List Captured → Sighting → Type 0
 IsSighted zero p without records sighting = Contains (map (sighting_of zero) (seen_inside p without records)) sighting
 
--- A time that is told of the refused record is one, and that of the captured record with its number; what is told beside
--- it is a packet of the connection, and the safety codes that are counted are those of the packets of the connection from
--- the record of the fault on.
-pub record IsTrueOf (zero : Bool) (p : Parameters) (without : List ℕ) (records : List Captured) (r : CaptureRefusal) : Type 0 where
+-- A time that is told of the refused record is one, and that of the captured record with its number; what is told
+-- beside it is a packet of the connection, and the safety codes that are counted are those of the packets of the
+-- connection from the record of the fault on.
+pub record IsTrueOf (zero : Bool) (p : Parameters) (without : List ℕ) (records : List Captured)
+    (r : CaptureRefusal) : Type 0 where
   pub timed : ForSome r.time (IsCapturedAt records r)
   pub genuine : ForSome r.time (λ t. is_time zero t ≡ true)
   pub beside : ForSome r.beside (λ b. IsSighted zero p without records b.sighting)
@@ -39,7 +40,8 @@ pub record IsTrueOf (zero : Bool) (p : Parameters) (without : List ℕ) (records
 -- ---- on the way
 
 -- a refusal as it is made
-pub record IsMadeOf (p : Parameters) (f : Fault) (bytes : List ℕ) (captured : Option CaptureTime) (notes : Notes) (r : CaptureRefusal) : Type 0 where
+pub record IsMadeOf (p : Parameters) (f : Fault) (bytes : List ℕ) (captured : Option CaptureTime)
+    (notes : Notes) (r : CaptureRefusal) : Type 0 where
   pub fault : r.fault ≡ f
   pub frame : r.frame.items ≡ bytes
   pub time : r.time ≡ time_told notes.zero_is_no_time captured
@@ -60,7 +62,8 @@ pub record AreBefore (number : ℕ) (records : List Captured) : Type 0 where
 
 -- what was true of the records so far is true of one more, which was captured at this time
 abbrev pub TellsNext : Pass → Pass → Numbered → Option CaptureTime → Type 0
-TellsNext old new r time = (records : List Captured) (q : Captured) → AreNotes old.params old.without.now records old.notes → AreBefore r.0 records
+TellsNext old new r time = (records : List Captured) (q : Captured)
+    → AreNotes old.params old.without.now records old.notes → AreBefore r.0 records
     → TellsTrue old records → numbered q ≡ r → time ≡ Some q.time → TellsTrue new (records ++ q ∷ [])
 
 -- of a record that stays
@@ -69,5 +72,6 @@ TellsStaying old new r time = is_left_out old.without.now r.0 ≡ false → Tell
 
 -- what was true of the records so far, all of them before this place, still is
 abbrev pub TellsStill : Pass → Pass → ℕ → Type 0
-TellsStill old new place = (records : List Captured) → AreNotes old.params old.without.now records old.notes → AreLower place records → TellsTrue old records
+TellsStill old new place = (records : List Captured) → AreNotes old.params old.without.now records old.notes
+    → AreLower place records → TellsTrue old records
     → TellsTrue new records

@@ -1,7 +1,7 @@
 //! The packet of the recorded channels that a record holds, or why it holds none.
 ghost use Rattle.std.specs.Prelude.{◌≡◌, ◌+◌, ◌≤◌, length, option_map, Some, None};
 ghost use Rattle.rasta_pcap.specs.Captured.{Captured, numbered};
-ghost use Rattle.rasta_udp.specs.Frame.{fields_of, header_length_of, is_tagged, number_at, packet_in, packet_of};
+ghost use Rattle.rasta_udp.specs.Frame.{fields_of, header_length_of, is_tagged, big_at, packet_in, packet_of};
 ghost use Rattle.rasta_check.specs.Capture.Reading.{packet_found};
 ghost use Rattle.seatmelon_reading.specs.Noted.{seen_in, why_passed};
 ghost use Rattle.seatmelon_reading.specs.PassedOver.{has_outer_tag, is_behind_tag, is_behind_tags, is_of_channels, is_udp, untagged, why_not};
@@ -43,10 +43,10 @@ pub fn packet<'r>(params: &Params, record: &Record<'r>) -> Option<Datagram<'r>>
     datagram(record, params.channel()).ok()?
 }
 
-#[tactic(auto, unfolding(rasta_udp::specs::Frame::number_at))]
+#[tactic(auto, unfolding(rasta_udp::specs::Frame::big_at))]
 fn u16_at(bytes: &[u8], place: usize) -> u16
     requires { place + 2 ≤ length bytes.now }
-    ensures { result ≡ number_at 2 place bytes.now }
+    ensures { result ≡ big_at 2 place bytes.now }
 {
     BigEndian::read_u16(&bytes[place..])
 }

@@ -7,7 +7,8 @@ ghost use Rattle.rasta_udp.specs.Frame.{packet_in, packet_of};
 ghost use Rattle.rasta_pdu.specs.Params.{IsWindow};
 ghost use Rattle.rasta_check.specs.Capture.Building.{crossed_in};
 ghost use Rattle.rasta_check.specs.Capture.Passages as passages;
-ghost use Rattle.rasta_check.specs.Capture.Reading.{nothing_crossed, packet_found};
+ghost use Rattle.rasta_check.specs.Capture.Crossing.{nothing_crossed};
+ghost use Rattle.rasta_check.specs.Capture.Reading.{packet_found};
 ghost use Rattle.seatmelon_reading.specs.Noted.{AreNotes, passage_seen, seen_in};
 
 use crate::capture_refusal::CaptureRefusal;

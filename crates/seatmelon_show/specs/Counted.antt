@@ -19,8 +19,8 @@ pub record AreCounts (p : Parameters) (c : Choice) (records : List Numbered) (n 
   pub listed : n.listed ≡ length (all_listed p c records)
   pub other_codes : n.other_codes ≡ length (filter (has_other_code p) (all_listed p c records))
 
--- this is what a file's listing comes to: the counts of its records up to the last one of the window, and the fault that
--- ends them
+-- this is what a file's listing comes to: the counts of its records up to the last one of the window, and the fault
+-- that ends them
 pub record IsListing (p : Parameters) (c : Choice) (file : List ℕ) (l : Listing) : Type 0 where
   pub counts : AreCounts p c (reading_of p.last_record file).records l.counts
   pub fault : l.fault ≡ (reading_of p.last_record file).fault

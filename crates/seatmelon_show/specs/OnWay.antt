@@ -15,7 +15,8 @@ abbrev pub with_records : List Numbered → Reading → Reading
 with_records done more = record { records = done ++ more.records; fault = more.fault }
 
 -- after so many records of the whole reading: those so far are counted, and the rest of the file has the others
-pub record IsOnWay (p : Parameters) (c : Choice) (whole : Reading) (order : Endianness) (count : ℕ) (rest : List ℕ) (l : Listing) : Type 0 where
+pub record IsOnWay (p : Parameters) (c : Choice) (whole : Reading) (order : Endianness) (count : ℕ)
+    (rest : List ℕ) (l : Listing) : Type 0 where
   pub done : List Numbered
   pub counted : length done ≡ count
   pub left : with_records done (reading (p.last_record - count) (cursor_at order rest count)) ≡ whole
@@ -29,7 +30,8 @@ pub record IsThrough (p : Parameters) (c : Choice) (whole : Reading) (l : Listin
 
 -- the input is known, and a reader stands so on the way
 abbrev pub ReaderOnWay : Parameters → Choice → Reading → RecordReader → Option (List ℕ) → Listing → Type 0
-ReaderOnWay p c whole records input l = (rest : List ℕ) × (input ≡ Some rest) × IsOnWay p c whole (order_in records) (count_in records) rest l
+ReaderOnWay p c whole records input l = (rest : List ℕ) × (input ≡ Some rest)
+    × IsOnWay p c whole (order_in records) (count_in records) rest l
 
 -- after one more record it is on the way, and where there was none it is through
 abbrev pub StepsTo : Bool → Parameters → Choice → Reading → RecordReader → Option (List ℕ) → Listing → Type 0

@@ -1,5 +1,6 @@
 -- What the records of a window hold, and how it is read.
-use Rattle.std.specs.Prelude.{ℕ, ◌==◌, List, filter_map, nat_lt, Bool, true, false, Option, Some, None, Result, Ok, Err, option_map, if◌then◌else◌}
+use Rattle.std.specs.Prelude.{ℕ, ◌==◌, List, filter_map, nat_lt, Bool, true, false, Option, Some, None, Result, Ok, Err}
+use Rattle.std.specs.Prelude.{option_map, if◌then◌else◌}
 use Rattle.rasta_pcap.specs.declared.fault.Fault.{Fault}
 use Rattle.rasta_pcap.specs.Capture.{Numbered}
 use Rattle.rasta_udp.specs.Frame.{Packet, packet_in, packet_of}
@@ -11,8 +12,8 @@ use Rattle.seatmelon_show.specs.declared.sight.Found.{Found}
 use Rattle.seatmelon_show.specs.declared.sight.Found.TheVariants.{Datagram, Unreadable}
 use Rattle.seatmelon_show.specs.declared.sight.Sight.{Sight}
 
--- a packet of the recorded channels, or why the datagram of a frame between the recorded hosts can't be read, and the number
--- of the record that holds it
+-- a packet of the recorded channels, or why the datagram of a frame between the recorded hosts can't be read, and the
+-- number of the record that holds it
 pub record Seen : Type 0 where
   pub number : ℕ
   pub found : Result Packet Fault

@@ -4,12 +4,12 @@ use Rattle.std.specs.Option.{option_and_then}
 use Rattle.rasta_pcap.specs.declared.fault.Fault.{Fault}
 use Rattle.rasta_udp.specs.Frame.{Packet}
 use Rattle.rasta_pdu.specs.declared.kind.Kind.{Kind}
-use Rattle.rasta_pdu.specs.Pdu.{kind_of, number_at}
+use Rattle.rasta_pdu.specs.Pdu.{kind_of, little_at}
 use Rattle.seatmelon_show.specs.Sighted.{Seen}
 
 -- the number of n bytes at an offset
 abbrev pub number_in : ℕ → ℕ → List ℕ → Option ℕ
-number_in n at bytes = if nat_le (at + n) (length bytes) then Some (number_at n at bytes) else None
+number_in n at bytes = if nat_le (at + n) (length bytes) then Some (little_at n at bytes) else None
 
 -- the type, if it is one that PDUs have
 abbrev pub kind_in : List ℕ → Option Kind

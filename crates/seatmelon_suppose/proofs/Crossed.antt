@@ -5,7 +5,8 @@ use Rattle.rasta_check.specs.Capture.Building.{crossed_in}
 use Rattle.std.proofs.lemmas.List.Elements.{filter-append}
 use Rattle.rasta_pcap.specs.declared.fault.Fault.{Fault}
 use Rattle.rasta_pdu.specs.Params.{Parameters}
-use Rattle.rasta_check.specs.Capture.Reading.{Crossing, after_packet, and_then, nothing_crossed}
+use Rattle.rasta_check.specs.Capture.Crossing.{Crossing, nothing_crossed}
+use Rattle.rasta_check.specs.Capture.Reading.{after_packet, then_crossing}
 use Rattle.seatmelon_reading.specs.Tapes.{NumberedPacket, taped_as}
 use Rattle.seatmelon_reading.specs.declared.tape.Taped.{Taped}
 use Rattle.seatmelon_suppose.specs.Mending.{IsMended, Takes, after_packets, is_before, mended_at, mended_from, no_place, origins_at, origins_from, supposed_at}
@@ -18,22 +19,22 @@ abbrev crossed_so : Crossing → Result Crossing Fault
 crossed_so k = Ok k
 
 then_more : (r : Result Crossing Fault) (more rest : List NumberedPacket)
-    → ((k : Crossing) → after_packets k (more ++ rest) ≡ and_then (after_packets k more) (λ n. after_packets n rest))
-    → and_then r (λ n. after_packets n (more ++ rest)) ≡ and_then (and_then r (λ n. after_packets n more)) (λ n. after_packets n rest)
+    → ((k : Crossing) → after_packets k (more ++ rest) ≡ then_crossing (after_packets k more) (λ n. after_packets n rest))
+    → then_crossing r (λ n. after_packets n (more ++ rest)) ≡ then_crossing (then_crossing r (λ n. after_packets n more)) (λ n. after_packets n rest)
 then_more (Ok k) more rest same = same k
 then_more (Err fault) more rest same = refl
 
-after-append : (first rest : List NumberedPacket) (k : Crossing) → after_packets k (first ++ rest) ≡ and_then (after_packets k first) (λ n. after_packets n rest)
+after-append : (first rest : List NumberedPacket) (k : Crossing) → after_packets k (first ++ rest) ≡ then_crossing (after_packets k first) (λ n. after_packets n rest)
 after-append [] rest k = refl
 after-append (n ∷ first) rest k = then_more (after_packet k n.number n.packet) first rest (after-append first rest)
 
 pub after-then : (k m n : Crossing) (first rest : List NumberedPacket) → after_packets k first ≡ Ok m → after_packets m rest ≡ Ok n
     → after_packets k (first ++ rest) ≡ Ok n
 after-then k m n first rest to on =
-    after-append first rest k ∙ ap (λ (r : Result Crossing Fault). and_then r (λ x. after_packets x rest)) to ∙ on
+    after-append first rest k ∙ ap (λ (r : Result Crossing Fault). then_crossing r (λ x. after_packets x rest)) to ∙ on
 
-after-one : (k m : Crossing) (n : NumberedPacket) (r : Result Crossing Fault) → r ≡ crossed_so m → and_then r (λ next. after_packets next []) ≡ Ok m
-after-one k m n r is = ap (λ (x : Result Crossing Fault). and_then x (λ next. after_packets next [])) is
+after-one : (k m : Crossing) (n : NumberedPacket) (r : Result Crossing Fault) → r ≡ crossed_so m → then_crossing r (λ next. after_packets next []) ≡ Ok m
+after-one k m n r is = ap (λ (x : Result Crossing Fault). then_crossing x (λ next. after_packets next [])) is
 
 pub after-packet : (k m : Crossing) (n : NumberedPacket) → after_packet k n.number n.packet ≡ Ok m → after_packets k (n ∷ []) ≡ Ok m
 after-packet k m n is = after-one k m n (after_packet k n.number n.packet) is

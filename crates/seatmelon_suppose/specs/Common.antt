@@ -29,11 +29,14 @@ pub record IsInBoth (one two both : List Listed) : Type 0 where
   pub first : IsUnder both one
   pub second : IsUnder both two
   pub whole : data_at (length both) one ≡ data_at (length both) two → data_at (length both) one ≡ None
-  pub proved : (i proof : ℕ) → proof_at i both ≡ Some proof → (proof_at i one ≡ Some proof) ⊎ (proof_at i two ≡ Some proof)
+  pub proved : (i proof : ℕ) → proof_at i both ≡ Some proof
+      → (proof_at i one ≡ Some proof) ⊎ (proof_at i two ≡ Some proof)
 
--- the first messages of an end, as far as they are the same under every filling, each with the latest of its proofs: there is no
--- further one that is next under each, and each proof is one of a filling
+-- the first messages of an end, as far as they are the same under every filling, each with the latest of its proofs:
+-- there is no further one that is next under each, and each proof is one of a filling
 pub record IsCommon (s : Side) (fillings : List Filling) (told : List Listed) : Type 0 where
   pub under : All (λ f. IsUnder told (listed_by s f)) fillings
-  pub whole : 1 ≤ length fillings → (next : Option ℕ) → All (λ f. data_at (length told) (listed_by s f) ≡ next) fillings → next ≡ None
-  pub proved : (i proof : ℕ) → proof_at i told ≡ Some proof → Any (λ f. proof_at i (listed_by s f) ≡ Some proof) fillings
+  pub whole : 1 ≤ length fillings → (next : Option ℕ)
+      → All (λ f. data_at (length told) (listed_by s f) ≡ next) fillings → next ≡ None
+  pub proved : (i proof : ℕ) → proof_at i told ≡ Some proof
+      → Any (λ f. proof_at i (listed_by s f) ≡ Some proof) fillings

@@ -3,7 +3,7 @@ use Rattle.std.specs.Prelude.{◌≡◌, ℕ, List, [], ◌++◌, drop, filter_m
 use Rattle.std.specs.List.{cons_option}
 use Rattle.std.specs.Option.{option_and_then}
 use Rattle.rasta_pdu.specs.Params.{Parameters}
-use Rattle.rasta_check.specs.Capture.Reading.{Crossing, nothing_crossed}
+use Rattle.rasta_check.specs.Capture.Crossing.{Crossing, nothing_crossed}
 use Rattle.rasta_check.specs.Verdict.Headline.{Headline}
 use Rattle.rasta_check.specs.Verdict.Listed.{ListedMessage, listed_of}
 use Rattle.rasta_check.specs.Verdict.Report as reports
@@ -34,7 +34,8 @@ shown_at origins place = first_captured (drop place origins)
 -- a message that is listed, with the places of its data and its proof; none whose data is supposed
 abbrev pub captured_message : List (Option ℕ) → ListedMessage → Option Listed
 captured_message origins l =
-    option_map (λ (place : ℕ). record { «data» = place; proof = shown_at origins l.proof_place }) (origin_at origins l.data_place)
+    option_map (λ (place : ℕ). record { «data» = place; proof = shown_at origins l.proof_place })
+    (origin_at origins l.data_place)
 
 -- the same of all messages of captured data
 abbrev pub captured_messages : List (Option ℕ) → List ListedMessage → List Listed
@@ -50,8 +51,8 @@ proof_of l = l.proof
 pub record Adds (origins : List (Option ℕ)) (t : Taken) (old new : List Listed) : Type 0 where
   pub added : new ≡ old ++ cons_option (captured_message origins (listed_of t)) []
 
--- the messages of captured data that the checker's report on what crossed lists; some run sends these packets, and in every run that does
--- each of these messages had been handed up
+-- the messages of captured data that the checker's report on what crossed lists; some run sends these packets, and in
+-- every run that does each of these messages had been handed up
 pub record AreLists (k : Crossing) (origins : List (Option ℕ)) (l : Lists) : Type 0 where
   pub report : reports.Explained
   pub headline : Headline k.params k.packets report

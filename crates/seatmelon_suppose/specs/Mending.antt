@@ -1,9 +1,11 @@
 -- What crossed together with PDUs that the tap is supposed to have missed.
-use Rattle.std.specs.Prelude.{◌≡◌, ℕ, suc, List, [], ◌∷◌, ◌++◌, map, filter, nat_eq, Bool, Option, None, Some, Result, Ok}
+use Rattle.std.specs.Prelude.{◌≡◌, ℕ, suc, List, [], ◌∷◌, ◌++◌, map, filter, nat_eq, Bool, Option, None, Some, Result}
+use Rattle.std.specs.Prelude.{Ok}
 use Rattle.rasta_pcap.specs.declared.fault.Fault.{Fault}
 use Rattle.rasta_pdu.specs.Params.{Parameters}
 use Rattle.rasta_check.specs.Capture.Building.{crossed_in}
-use Rattle.rasta_check.specs.Capture.Reading.{Crossing, after_packet, and_then, nothing_crossed}
+use Rattle.rasta_check.specs.Capture.Crossing.{Crossing, nothing_crossed}
+use Rattle.rasta_check.specs.Capture.Reading.{after_packet, then_crossing}
 use Rattle.seatmelon_reading.specs.Tapes.{NumberedPacket}
 use Rattle.seatmelon_suppose.specs.Spelling.{packet_supposed}
 use Rattle.seatmelon_suppose.specs.declared.mending.Mending.{Mending}
@@ -50,7 +52,7 @@ origins_from supposed place (n ∷ more) = origins_at supposed place ++ origins_
 -- the crossing after these packets, or the first fault
 abbrev pub after_packets : Crossing → List NumberedPacket → Result Crossing Fault
 after_packets k [] = Ok k
-after_packets k (n ∷ more) = and_then (after_packet k n.number n.packet) (λ next. after_packets next more)
+after_packets k (n ∷ more) = then_crossing (after_packet k n.number n.packet) (λ next. after_packets next more)
 
 -- ---- on the way
 
@@ -60,6 +62,7 @@ pub record Takes (old new : Mending) (more : List NumberedPacket) (from : List (
   pub origins : new.origins.items ≡ old.origins.items ++ from
 
 -- the first ones of all captured packets have crossed, together with the supposed PDUs
-pub record IsMended (p : Parameters) (packets : List NumberedPacket) (supposed : List Supposed) (first : List NumberedPacket) (k : Crossing) (from : List (Option ℕ)) : Type 0 where
+pub record IsMended (p : Parameters) (packets : List NumberedPacket) (supposed : List Supposed)
+    (first : List NumberedPacket) (k : Crossing) (from : List (Option ℕ)) : Type 0 where
   pub crossed : after_packets (nothing_crossed p) (mended_from p packets supposed 0 first) ≡ Ok k
   pub origins : from ≡ origins_from supposed 0 first

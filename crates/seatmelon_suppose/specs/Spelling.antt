@@ -1,9 +1,11 @@
 -- PDUs that the tap is supposed to have missed, as they are spelled.
-use Rattle.std.specs.Prelude.{ℕ, Bool, ◌||◌, List, [], ◌∷◌, take, slice_get, Option, None, Some, Result, Ok, Err, if◌then◌else◌}
+use Rattle.std.specs.Prelude.{ℕ, Bool, ◌||◌, List, [], ◌∷◌, take, slice_get, Option, None, Some, Result, Ok, Err}
+use Rattle.std.specs.Prelude.{if◌then◌else◌}
 use Rattle.rasta_pcap.specs.declared.fault.Fault.{Fault}
 use Rattle.rasta_pdu.specs.Messages.{payload_of_messages}
 use Rattle.rasta_pdu.specs.Params.{Parameters}
-use Rattle.rasta_pdu.specs.Pdu.{Empty, Messages, RedundancyPdu, SafetyBody, decode_of, is_kind, messages_in, redundancy_bytes}
+use Rattle.rasta_pdu.specs.Pdu.{Empty, Messages, RedundancyPdu, SafetyBody, decode_of, is_kind, messages_in}
+use Rattle.rasta_pdu.specs.Pdu.{redundancy_bytes}
 use Rattle.rasta_pdu.specs.declared.kind.Kind.{Kind}
 use Rattle.rasta_pdu.specs.declared.kind.Kind.TheVariants.{Data, RetransmittedData}
 use Rattle.seatmelon_reading.specs.Tapes.{NumberedPacket, numbered_with}
@@ -64,4 +66,5 @@ datagram_supposed p packets s = redundancy_bytes p s.sender (pdu_supposed p pack
 
 -- it crosses on the first channel, and is told of the record of this number
 abbrev pub packet_supposed : Parameters → List NumberedPacket → ℕ → Supposed → NumberedPacket
-packet_supposed p packets number s = numbered_with number (record { channel = 1; side = s.sender; payload = datagram_supposed p packets s })
+packet_supposed p packets number s =
+    numbered_with number (record { channel = 1; side = s.sender; payload = datagram_supposed p packets s })

@@ -7,7 +7,8 @@ use Rattle.seatmelon_suppose.specs.Common.{IsCommon}
 use Rattle.seatmelon_suppose.specs.Filling.{IsFilling}
 use Rattle.seatmelon_suppose.specs.declared.supposition.Supposition.{Supposition}
 
--- the checker has judged each filling, and of each end those messages are told as surely taken that are the first ones under each
+-- the checker has judged each filling, and of each end those messages are told as surely taken that are the first ones
+-- under each
 pub record IsSupposition (p : Parameters) (packets : List NumberedPacket) (s : Supposition) : Type 0 where
   pub fillings : All (IsFilling p packets) s.fillings.items
   pub client : IsCommon Client s.fillings.items s.client.taken.items

@@ -3,7 +3,7 @@ ghost use Rattle.std.specs.Prelude.{◌≡◌, ◌∷◌, [], None, Some, length
 ghost use Rattle.rasta_pcap.specs.Fault.{no_memory};
 ghost use Rattle.rasta_udp.specs.Frame.{packet_of};
 ghost use Rattle.rasta_check.specs.Capture.Building.{crossed_in};
-ghost use Rattle.rasta_check.specs.Capture.Reading.{nothing_crossed};
+ghost use Rattle.rasta_check.specs.Capture.Crossing.{nothing_crossed};
 ghost use Rattle.seatmelon_reading.specs.Tapes.{numbered_with, taped_as};
 ghost use Rattle.seatmelon_suppose.specs.Mending.{IsMended, Takes, mended_at, no_place, origins_at, supposed_at};
 ghost use Rattle.seatmelon_suppose.specs.Spelling.{packet_supposed};

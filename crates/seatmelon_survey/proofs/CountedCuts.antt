@@ -6,7 +6,7 @@ use Rattle.std.proofs.lemmas.List.Elements.{filter-append, filter_map-append}
 use Rattle.std.specs.List.{cons_option, flat_map, AllByRecursion}
 use Rattle.std.specs.Map.{lookup}
 use Rattle.rasta_pcap.specs.declared.pcap.Endianness.{Endianness}
-use Rattle.rasta_pcap.specs.Capture.{Cursor, Entry, IsEntry, Numbered, cursor_after, cursor_at, entry_bytes}
+use Rattle.rasta_pcap.specs.Capture.{FileCursor, RecordEntry, IsEntry, Numbered, cursor_after, cursor_at, entry_bytes}
 use Rattle.rasta_pcap.specs.Stream.{Opens, ReadsRecord}
 use Rattle.rasta_pcap.proofs.Captures.{next_entry}
 use Rattle.rasta_pcap.proofs.Extents.{HasRead-opened}
@@ -75,13 +75,13 @@ frame_counted frames frame (Some cut) old new is takes are =
 
 -- ---- records
 
-none_of : (entries : List Entry) → length entries ≡ 0 → [] ≡ entries
+none_of : (entries : List RecordEntry) → length entries ≡ 0 → [] ≡ entries
 none_of [] e = refl
 none_of (x ∷ xs) e = absurd cc
 
-none_counted : (cuts : CutNotes) (entries : List Entry) → cuts ≡ no_cuts → length entries ≡ 0 → AreCounted (cuts_in (frames_of entries)) cuts
+none_counted : (cuts : CutNotes) (entries : List RecordEntry) → cuts ≡ no_cuts → length entries ≡ 0 → AreCounted (cuts_in (frames_of entries)) cuts
 none_counted cuts entries is none =
-    subst (λ (l : List Entry). AreCounted (cuts_in (frames_of l)) cuts) (none_of entries none)
+    subst (λ (l : List RecordEntry). AreCounted (cuts_in (frames_of l)) cuts) (none_of entries none)
     (subst (λ (c : CutNotes). AreCounted [] c) (sym is) (record { all = refl; each = λ none d. refl }))
 
 pub HasCounted-opened : (order : Endianness) (old new : Option (List ℕ)) (cuts : CutNotes) → Opens order old new → cuts ≡ no_cuts
@@ -90,7 +90,7 @@ HasCounted-opened order old new cuts opened is =
     let read = HasRead-opened order old new opened in
     record { read = read; counted = none_counted cuts read.entries is read.counted }
 
-entries-more : (order : Endianness) (entries : List Entry) (e : Entry) → AllByRecursion (IsEntry order) entries → IsEntry order e
+entries-more : (order : Endianness) (entries : List RecordEntry) (e : RecordEntry) → AllByRecursion (IsEntry order) entries → IsEntry order e
     → AllByRecursion (IsEntry order) (entries ++ e ∷ [])
 entries-more order [] e each h = (h, tt)
 entries-more order (x ∷ xs) e each h = (each.0, entries-more order xs e each.1 h)
@@ -101,12 +101,12 @@ pub HasCounted-more : (order : Endianness) (read count : ℕ) (r : Numbered) (ol
 HasCounted-more order read count r old mid new cuts more h found takes =
     let c = cursor_at order (found.bytes ++ []) count in
     let f = next_entry c r (next-is_next_entry c r (found.each []).0) in
-    let nothing : (cursor_after c).rest ≡ [] = ap (λ (c : Cursor). c.rest) (found.each []).1 in
+    let nothing : (cursor_after c).rest ≡ [] = ap (λ (c : FileCursor). c.rest) (found.each []).1 in
     let bytes : found.bytes ≡ entry_bytes f.entry =
     sym (append-nil found.bytes) ∙ f.front ∙ ap (λ l. entry_bytes f.entry ++ l) nothing ∙ append-nil (entry_bytes f.entry) in
     let frames = frames_of h.read.entries in
     let same : frames_of (h.read.entries ++ f.entry ∷ []) ≡ frames ++ r.1 ∷ [] =
-    map-append (λ (e : Entry). e.bytes) h.read.entries (f.entry ∷ []) ∙ ap (λ b. frames ++ b ∷ []) (sym f.bytes_are) in record {
+    map-append (λ (e : RecordEntry). e.bytes) h.read.entries (f.entry ∷ []) ∙ ap (λ b. frames ++ b ∷ []) (sym f.bytes_are) in record {
       read = record {
         bytes = h.read.bytes ++ found.bytes;
         header = h.read.header;

@@ -3,7 +3,7 @@ use Rattle.std.proofs.Common.{◌≡◌, ◌⊎◌, ◌+◌, ◌≤◌, ◌++◌
 use Rattle.std.proofs.lemmas.Bool.{leb-false}
 use Rattle.rasta_pcap.specs.declared.fault.Fault.{Fault}
 use Rattle.rasta_pcap.specs.declared.pcap.Endianness.{Endianness}
-use Rattle.rasta_pcap.specs.Capture.{Cursor, Numbered, cursor_at, max_captured, max_records, next, next_bytes, next_length}
+use Rattle.rasta_pcap.specs.Capture.{FileCursor, Numbered, cursor_at, max_captured, max_records, next, next_bytes, next_length}
 use Rattle.rasta_pcap.specs.Devices.{HasFailed}
 use Rattle.rasta_pcap.specs.Extent.{HasRead}
 use Rattle.rasta_pcap.specs.Fault.{cut_record, fault_at, no_memory, not_pcap, read_failed, record_too_long, too_many}
@@ -14,7 +14,7 @@ use Rattle.seatmelon_survey.specs.Extents.{RefusesNext}
 -- a record's number is that of the record before it and one
 pub record-number : (order : Endianness) (count : ℕ) (r : Numbered) (old new : Option (List ℕ)) → ReadsRecord order count r old new
     → r.0 ≡ count + 1
-record-number order count r old new found = sym (ap (λ (c : Cursor). c.count) (found.each []).1)
+record-number order count r old new found = sym (ap (λ (c : FileCursor). c.count) (found.each []).1)
 
 -- ---- the number of a record's fault
 
@@ -33,7 +33,7 @@ tested-number false false false true cut place r f h = number_of f record_too_lo
 tested-number false false false false true place r f h = number_of f cut_record place h (omega arith)
 tested-number false false false false false place r f h = absurd (cc)
 
-next-number : (c : Cursor) (f : Fault) → next c ≡ Err f → 10 ≤ f.number
+next-number : (c : FileCursor) (f : Fault) → next c ≡ Err f → 10 ≤ f.number
 next-number c f h =
     let size = length c.rest in
     let captured = next_length c in

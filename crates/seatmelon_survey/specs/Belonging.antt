@@ -1,5 +1,6 @@
 -- To which connection a packet between two ends belongs, among those so far.
-use Rattle.std.specs.Prelude.{◌≡◌, ℕ, ◌+◌, min, max, Bool, true, false, not, ◌==◌, ◌&&◌, ◌||◌, if◌then◌else◌, List, [], ◌∷◌, map, slice_get, Option, Some, None}
+use Rattle.std.specs.Prelude.{◌≡◌, ℕ, ◌+◌, min, max, Bool, true, false, not, ◌==◌, ◌&&◌, ◌||◌, if◌then◌else◌, List, []}
+use Rattle.std.specs.Prelude.{◌∷◌, map, slice_get, Option, Some, None}
 use Rattle.std.specs.Option.{option_and_then, option_map, option_map_or}
 use Rattle.seatmelon_packets.specs.declared.packet.Packet.{Packet}
 use Rattle.seatmelon_connections.specs.declared.connection.Connection.{Connection}
@@ -65,7 +66,8 @@ pub record ArePlaced (cs : List Connection) (t : Tables) : Type 0 where
 abbrev pub destination_behind : List Connection → ℕ → Connection → Packet → Option ℕ → Destination
 destination_behind cs last z p None = Last last
 destination_behind cs last z p (Some place) =
-    if (place == last) || option_map_or (λ c. is_claimed c z p) (slice_get cs place) false then BehindRepeated place last
+    if (place == last)
+    || option_map_or (λ c. is_claimed c z p) (slice_get cs place) false then BehindRepeated place last
     else Last last
 
 -- where a packet belongs, by the connection that it opened: to that one, as a late copy if this has ended, or isn't the
@@ -73,13 +75,15 @@ destination_behind cs last z p (Some place) =
 abbrev pub destination_beside : List Connection → ℕ → Connection → Packet → Option ℕ → Destination
 destination_beside cs last z p (Some place) =
     if (place == last) && not (has_ending_in z) then Last last else Repeated place last
-destination_beside cs last z p None = if is_followed_by z p then Another else destination_behind cs last z p (repeated_in z)
+destination_beside cs last z p None = if is_followed_by z p then Another
+    else destination_behind cs last z p (repeated_in z)
 
 -- where a packet belongs, by the last connection between its ends
 abbrev pub destination_after : List Connection → Packet → Option ℕ → Destination
 destination_after cs p None = Another
 destination_after cs p (Some last) =
-    option_map_or (λ z. destination_beside cs last z p (option_and_then (λ o. opened_among o cs) (opening_in p))) (slice_get cs last) Another
+    option_map_or (λ z. destination_beside cs last z p (option_and_then (λ o. opened_among o cs) (opening_in p)))
+      (slice_get cs last) Another
 
 -- where a packet belongs
 abbrev pub destination_of : List Connection → Packet → Destination

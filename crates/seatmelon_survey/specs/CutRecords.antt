@@ -1,13 +1,13 @@
 -- Which datagrams of a capture weren't captured whole.
 use Rattle.std.specs.Prelude.{ℕ, List, Option, map}
 use Rattle.rasta_pcap.specs.declared.pcap.Endianness.{Endianness}
-use Rattle.rasta_pcap.specs.Capture.{Entry}
+use Rattle.rasta_pcap.specs.Capture.{RecordEntry}
 use Rattle.rasta_pcap.specs.Extent.{HasRead}
 use Rattle.seatmelon_survey.specs.CutNotes.{CutNotes}
 use Rattle.seatmelon_survey.specs.Cuts.{AreCounted, cuts_in}
 
-abbrev pub frames_of : List Entry → List (List ℕ)
-frames_of entries = map (λ (e : Entry). e.bytes) entries
+abbrev pub frames_of : List RecordEntry → List (List ℕ)
+frames_of entries = map (λ (e : RecordEntry). e.bytes) entries
 
 -- the header of a capture and so many records were read, and what wasn't captured whole in these records is counted
 pub record HasCounted (order : Endianness) (records : ℕ) (old new : Option (List ℕ)) (cuts : CutNotes) : Type 0 where

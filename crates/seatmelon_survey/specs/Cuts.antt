@@ -1,5 +1,6 @@
 -- How many datagrams weren't captured whole.
-use Rattle.std.specs.Prelude.{◌≡◌, ℕ, ◌+◌, ◌==◌, ◌&&◌, min, Bool, true, false, List, length, filter, filter_map, Option, Some, None, if◌then◌else◌}
+use Rattle.std.specs.Prelude.{◌≡◌, ℕ, ◌+◌, ◌==◌, ◌&&◌, min, Bool, true, false, List, length, filter, filter_map, Option}
+use Rattle.std.specs.Prelude.{Some, None, if◌then◌else◌}
 use Rattle.std.specs.Map.{lookup}
 use Rattle.rasta_udp.specs.declared.channel.Channel.{Channel}
 use Rattle.rasta_udp.specs.declared.channel.Endpoint.{Endpoint}
@@ -51,14 +52,18 @@ count_in c d = or_none (lookup (same_direction d) c.entries)
 pub record TakesCut (cut : Cut) (old new : CutNotes) : Type 0 where
   pub all : new.datagrams ≡ capped (old.datagrams + 1)
   pub apart : new.further ≡ 0 → old.further ≡ 0
-  pub each : new.further ≡ 0 → (d : Direction) → count_in new d ≡ (if goes d cut then one_more cut (count_in old d) else count_in old d)
+  pub each : new.further ≡ 0 → (d : Direction)
+      → count_in new d ≡ (if goes d cut then one_more cut (count_in old d) else count_in old d)
 
 -- a datagram goes this way, and has the form of RaSTA as far as it was captured
 abbrev pub is_formed : Direction → Cut → Bool
 is_formed d cut = goes d cut && cut.has_form
 
 abbrev pub counted_of : Direction → List Cut → CutCount
-counted_of d cuts = record { datagrams = capped (length (filter (goes d) cuts)); formed = capped (length (filter (is_formed d) cuts)) }
+counted_of d cuts = record {
+  datagrams = capped (length (filter (goes d) cuts));
+  formed = capped (length (filter (is_formed d) cuts));
+}
 
 -- of these datagrams: how many there are, and as long as each direction is told apart, how many of each one
 pub record AreCounted (cuts : List Cut) (c : CutNotes) : Type 0 where

@@ -7,9 +7,9 @@ use Rattle.seatmelon_pcapng.specs.declared.format.Format.{Format}
 use Rattle.seatmelon_survey.specs.CutNotes.{CutNotes}
 
 -- the connections, in the order of their first records; how many records were read, how many of them are packets with
--- the form of RaSTA, and how many of these belong to further connections, which were left out; the datagrams that weren't
--- captured whole; the fault of the record behind those that were read, if there is one; the header of the capture, if that
--- was kept; and the format of its file
+-- the form of RaSTA, and how many of these belong to further connections, which were left out; the datagrams that
+-- weren't captured whole; the fault of the record behind those that were read, if there is one; the header of the
+-- capture, if that was kept; and the format of its file
 pub record Findings : Type 0 where
   pub connections : List Connection
   pub records : ℕ

@@ -5,8 +5,8 @@ use Rattle.seatmelon_survey.specs.declared.places.Ends.{Ends}
 use Rattle.seatmelon_survey.specs.declared.places.Opening.{Opening}
 use Rattle.seatmelon_survey.specs.declared.places.Placed.{Placed}
 
--- the entries of the tables, in any order: the place of the last connection between two ends, and that of the connection
--- that a request opened; and for how many more connections there is room
+-- the entries of the tables, in any order: the place of the last connection between two ends, and that of the
+-- connection that a request opened; and for how many more connections there is room
 pub record Tables : Type 0 where
   pub last : List (Ends × ℕ)
   pub opened : List (Opening × ℕ)

@@ -22,7 +22,7 @@ pub struct Host {
 }
 
 impl Host {
-    #[tactic(auto, unfolding(rasta_udp::specs::Frame::number_at))]
+    #[tactic(auto, unfolding(rasta_udp::specs::Frame::big_at))]
     fn of(endpoint: &Endpoint) -> Host
         ensures { result ≡ host_of endpoint.now }
     {

@@ -3,12 +3,13 @@ use Rattle.std.proofs.Common.{◌≡◌, ℕ, ◌+◌, ◌<◌, ◌≤◌, ◌++
 use Rattle.rasta_check.proofs.Prelude.{◌&&◌, ◌||◌, option_map, length_push, slice_get_within, bytes_eq, bytes_eq-Decides, Fault, number_gap, Side, Client, Server, Packet}
 use Rattle.rasta_check.proofs.Prelude.{Parameters, AreParameters, AreBytes, RedundancyPdu, redundancy_bytes, decode_of, value_of, wrapped, FirstCopy, Sent, Spells, copy_with}
 use Rattle.rasta_check.proofs.Prelude.{is_next_number, packet_fault, CrossRecorded, OfConnection, copy_of, Pdu, Crossing, IsCrossing, sent_by, sent_after, with_packet}
-use Rattle.rasta_check.proofs.Prelude.{crossing_with, is_within, nat_tests, mapped_some}
+use Rattle.rasta_check.proofs.Prelude.{crossing_with, keeps_limits, nat_tests, mapped_some}
 use Rattle.rasta_pcap.specs.Fault.{copy_differs}
 use Rattle.std.proofs.lemmas.Nat.{from_le_bytes-to_le_bytes_4}
 use Rattle.rasta_pdu.proofs.Spellings.{decode_of-Ok}
-use Rattle.rasta_check.specs.Capture.Crossing.{number_fault, number_in_bytes, read_fault}
-use Rattle.rasta_check.specs.Capture.Crossing.{IsRecorded}
+use Rattle.rasta_check.specs.Capture.PacketFaults.{number_fault, read_fault}
+use Rattle.rasta_check.specs.Capture.SentLists.{number_in_bytes}
+use Rattle.rasta_check.specs.Capture.SentLists.{IsRecorded}
 use Rattle.rasta_check.specs.Model.Theorem.{most_packets}
 use Rattle.rasta_check.specs.Model.World.{most_sent}
 use Rattle.rasta_check.specs.Internals.Packets.{with_new}
@@ -111,25 +112,25 @@ new_length sent place new = grind (arith, length_push)
 -- ---- one packet more
 
 -- lists of both sides within the limits make a crossing
-pub crossing_of_lists : (k : Crossing) → OfConnection k.params → CrossRecorded k.params k.packets → is_within k ≡ true → IsSent k.params k.packets Client k.client
+pub crossing_of_lists : (k : Crossing) → OfConnection k.params → CrossRecorded k.params k.packets → keeps_limits k ≡ true → IsSent k.params k.packets Client k.client
     → IsSent k.params k.packets Server k.server → IsCrossing k
 crossing_of_lists k valid recorded within c s =
     let w : (length k.packets ≤ most_packets) × (length k.client ≤ most_sent) × (length k.server ≤ most_sent) = grind (arith, nat_tests) in
     grind (arith, of_record)
 
 grown_at : (k : Crossing) (a : Packet) (side : Side) (sent : List FirstCopy) → a.side ≡ side → IsCrossing k → IsRecorded k.params a.channel
-    → IsSent k.params (k.packets ++ a ∷ []) side sent → is_within (crossing_with k a side sent) ≡ true → IsCrossing (crossing_with k a side sent)
+    → IsSent k.params (k.packets ++ a ∷ []) side sent → keeps_limits (crossing_with k a side sent) ≡ true → IsCrossing (crossing_with k a side sent)
 grown_at k a Client sent e h on s within = crossing_of_lists (crossing_with k a Client sent) h.valid (recorded_more k.params k.packets a h.recorded on) within
     s (sent_other k.params k.packets a Server k.server (list_of k h Server) (λ f. (cc)))
 grown_at k a Server sent e h on s within = crossing_of_lists (crossing_with k a Server sent) h.valid (recorded_more k.params k.packets a h.recorded on) within
     (sent_other k.params k.packets a Client k.client (list_of k h Client) (λ f. (cc))) s
 
-pub grown_crossing : (k : Crossing) (a : Packet) → IsCrossing k → IsRecorded k.params a.channel → IsRead k.params a → packet_fault k.params (sent_by k a.side) a ≡ None → is_within (with_packet k a) ≡ true → IsCrossing (with_packet k a)
+pub grown_crossing : (k : Crossing) (a : Packet) → IsCrossing k → IsRecorded k.params a.channel → IsRead k.params a → packet_fault k.params (sent_by k a.side) a ≡ None → keeps_limits (with_packet k a) ≡ true → IsCrossing (with_packet k a)
 grown_crossing k a h on are n within = grown_at k a a.side (sent_after k a) refl h on (goes_on k.params k.packets (sent_by k a.side) a (list_of k h a.side) are n) within
 
 -- whether there is room for a packet without a fault, whose PDU is new or known
 pub within_room : (k : Crossing) (a : Packet) (is_new : Bool) → IsCrossing k → length (sent_after k a) ≡ length (sent_by k a.side) + (if is_new then 1 else 0)
-    → is_within (with_packet k a) ≡ (nat_lt (length k.packets) most_packets && (not is_new || nat_lt (length (sent_by k a.side)) most_sent))
+    → keeps_limits (with_packet k a) ≡ (nat_lt (length k.packets) most_packets && (not is_new || nat_lt (length (sent_by k a.side)) most_sent))
 within_room k a is_new h e = (let l = length_push k.packets a in let x = h.sent.few_client in let y = h.sent.few_server in grind (arith, nat_tests))
 
 -- ---- the parts of a crossing with one packet more

@@ -2,7 +2,7 @@
 use Rattle.std.proofs.Common.{◌≡◌, ℕ, suc, ◌≤◌, List, [], ◌∷◌, ◌++◌, length, append_assoc, length-append, Option, Some, None, Result, Ok, Err, true, false, refl, ap, sym, ◌∙◌, arith, subst, nat_lt, inl, inr}
 use Rattle.rasta_check.proofs.Prelude.{length_push, nat_tests, Fault, Side, Client, Server, reading_of, bytes_of, reading_of-IsCapture, IsCapture-reading_of, Packet, packet_in}
 use Rattle.rasta_check.proofs.Prelude.{Parameters, AreParameters, AreBytes, FirstCopy, Sent, crossing_list, packet_fault, OfConnection, Crossing, IsCrossing, after_records}
-use Rattle.rasta_check.proofs.Prelude.{crossing_of, is_within, nothing_crossed, sent_after, sent_by, with_packet, all_front}
+use Rattle.rasta_check.proofs.Prelude.{crossing_of, keeps_limits, nothing_crossed, sent_after, sent_by, with_packet, all_front}
 use Rattle.std.specs.Prelude.{IsOk}
 use Rattle.rasta_check.specs.Model.Theorem.{most_packets}
 use Rattle.rasta_check.specs.Model.World.{most_sent}
@@ -50,7 +50,7 @@ module _ (k : Crossing) (a : Packet) (more : List Packet) (h : IsCrossing k) (bi
       faultless k.params k.packets a.side (sent_by k a.side) a h.valid own (omega arith) (can_follow k.params k.packets more a.side (sent_by k a.side) a own (omega arith) refl big whole)
 
   -- its PDUs up to this one are no more than all
-  is_room : AreBytes a.payload → length (k.packets ++ a ∷ more) ≤ most_packets → length big ≤ most_sent → is_within (with_packet k a) ≡ true
+  is_room : AreBytes a.payload → length (k.packets ++ a ∷ more) ≤ most_packets → length big ≤ most_sent → keeps_limits (with_packet k a) ≡ true
   is_room are packets few =
       let grown = goes_on k.params k.packets (sent_by k a.side) a (list_of k h a.side) (is_read k.params (sent_by k a.side) a h.valid.valid are no_fault) no_fault in
       let front = cut k.params more (k.packets ++ a ∷ []) a.side big (subst (λ (xs : List Packet). IsSent k.params xs a.side big) (sym (append_assoc k.packets (a ∷ []) more)) whole) in

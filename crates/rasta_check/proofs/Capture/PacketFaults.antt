@@ -3,7 +3,7 @@ use Rattle.std.proofs.Common.{◌≡◌, ◌⊎◌, ℕ, suc, ◌+◌, ◌<◌, 
 use Rattle.rasta_check.proofs.Prelude.{◌==◌, if◌then◌else◌, nat_tests, bytes_eq-Decides, Side, Packet, Parameters, RedundancyPdu, decode_of, wrapped, FirstCopy}
 use Rattle.rasta_check.proofs.Prelude.{Spells, copy_with, is_next_number, OfConnection}
 use Rattle.rasta_pdu.proofs.Spellings.{decode_of-redundancy_bytes}
-use Rattle.rasta_check.specs.Capture.Crossing.{number_fault, read_fault}
+use Rattle.rasta_check.specs.Capture.PacketFaults.{number_fault, read_fault}
 use Rattle.rasta_check.proofs.Capture.FaultlessLists.{IsSent, ordered}
 use Rattle.rasta_check.proofs.Capture.NextPackets.{CanFollow}
 use Rattle.rasta_check.proofs.Capture.Positions.{next_new, number_once}

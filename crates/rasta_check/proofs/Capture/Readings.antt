@@ -2,7 +2,7 @@
 use Rattle.std.proofs.Common.{◌≡◌, ◌⊎◌, ℕ, List, [], ◌∷◌, ◌++◌, suc, ◌+◌, ◌-◌, length, map, drop, append_assoc, append-nil, Option, Some, None, Result, Ok, Err, true, false, refl, ap, sym, ◌∙◌, arith, subst, nat_lt}
 use Rattle.rasta_check.proofs.Prelude.{nat_tests, length_push, Side, Client, Server, fault_of_end, IsCapture-reading_of, reading_of-IsCapture, Packet, packet_in, FirstCopy}
 use Rattle.rasta_check.proofs.Prelude.{crossing_list, packet_fault, Fault, Numbered, IsCapture, next, cursor_after, opening, reading, reading_of, bytes_of, Parameters}
-use Rattle.rasta_check.proofs.Prelude.{AreParameters, Crossing, IsCrossing, and_then, after_record, after_records, after_reading, crossing_of, crossing_with, is_within}
+use Rattle.rasta_check.proofs.Prelude.{AreParameters, Crossing, IsCrossing, then_crossing, after_record, after_records, after_reading, crossing_of, crossing_with, keeps_limits}
 use Rattle.rasta_check.proofs.Prelude.{nothing_crossed, sent_after, sent_by, with_packet, AreBytes, OfConnection, all_front}
 use Rattle.std.specs.Prelude.{IsOk}
 use Rattle.std.specs.List.{AllByRecursion, filter_map, range_with_len, cons_option}
@@ -13,7 +13,7 @@ use Rattle.std.specs.Option.{option_flatten}
 use Rattle.std.specs.Result.{result_ok}
 use Rattle.rasta_pcap.specs.Fault.{fault_at, too_many}
 use Rattle.rasta_pcap.proofs.Captures.{numbers-reading_of}
-use Rattle.rasta_pcap.specs.Capture.{Cursor, read_step}
+use Rattle.rasta_pcap.specs.Capture.{FileCursor, read_step}
 use Rattle.rasta_pcap.proofs.Steps.{reading_of-opened, reading_of-refused}
 use Rattle.rasta_check.specs.Capture.Reading.{after_packet}
 use Rattle.rasta_check.proofs.Capture.Channels.{is_recorded}
@@ -23,7 +23,7 @@ use Rattle.rasta_check.proofs.Lists.{all_append, all_at}
 use Rattle.rasta_check.proofs.Capture.RecordBytes.{AllBytes, payload_bytes}
 
 -- what is next leads on
-pub after-next : (k : Crossing) (left : ℕ) (c : Cursor) (o : Result (Option Numbered) Fault) → next c ≡ o
+pub after-next : (k : Crossing) (left : ℕ) (c : FileCursor) (o : Result (Option Numbered) Fault) → next c ≡ o
     → after_reading k (reading (suc left) c) ≡ after_reading k (read_step o (reading left (cursor_after c)))
 unfolding reading
 after-next k left c o h = ap (λ (q : Result (Option Numbered) Fault). after_reading k (read_step q (reading left (cursor_after c)))) h
@@ -31,7 +31,7 @@ after-next k left c o h = ap (λ (q : Result (Option Numbered) Fault). after_rea
 -- as a function names it
 pub ruleset leads_on = (after-next)
 
-pub after-opened : (p : Parameters) (file : List ℕ) (c : Cursor) → opening file ≡ Ok c → crossing_of p file ≡ after_reading (nothing_crossed p) (reading p.last_record c)
+pub after-opened : (p : Parameters) (file : List ℕ) (c : FileCursor) → opening file ≡ Ok c → crossing_of p file ≡ after_reading (nothing_crossed p) (reading p.last_record c)
 after-opened p file c h = ap (after_reading (nothing_crossed p)) (reading_of-opened p.last_record file c h)
 
 pub after-refused : (p : Parameters) (file : List ℕ) (f : Fault) → opening file ≡ Err f → crossing_of p file ≡ Err f
@@ -45,12 +45,12 @@ pub data Step (k : Crossing) (r : Numbered) : Result Crossing Fault → Type 0 w
   before : nat_lt r.0 k.params.first_record ≡ true → Step k r (Ok k)
   empty : nat_lt r.0 k.params.first_record ≡ false → packet_in k.params.channels r.1 ≡ Ok None → Step k r (Ok k)
   joined : (a : Packet) → nat_lt r.0 k.params.first_record ≡ false → packet_in k.params.channels r.1 ≡ Ok (Some a) → packet_fault k.params (sent_by k a.side) a ≡ None
-      → is_within (with_packet k a) ≡ true → Step k r (Ok (with_packet k a))
+      → keeps_limits (with_packet k a) ≡ true → Step k r (Ok (with_packet k a))
   bad_frame : (f : Fault) → nat_lt r.0 k.params.first_record ≡ false → packet_in k.params.channels r.1 ≡ Err f → Step k r (Err (fault_at f.number r.0))
   bad_packet : (a : Packet) (number : ℕ) → nat_lt r.0 k.params.first_record ≡ false → packet_in k.params.channels r.1 ≡ Ok (Some a)
       → packet_fault k.params (sent_by k a.side) a ≡ Some number → Step k r (Err (fault_of_end number r.0 a.side))
   no_room : (a : Packet) → nat_lt r.0 k.params.first_record ≡ false → packet_in k.params.channels r.1 ≡ Ok (Some a) → packet_fault k.params (sent_by k a.side) a ≡ None
-      → is_within (with_packet k a) ≡ false → Step k r (Err (fault_at too_many r.0))
+      → keeps_limits (with_packet k a) ≡ false → Step k r (Err (fault_at too_many r.0))
 
 module _ (k : Crossing) (r : Numbered) where
   pub step_of : Step k r (after_record k r)
@@ -67,7 +67,7 @@ module _ (k : Crossing) (r : Numbered) where
   step_is o (bad_packet a number t g n) = rw (t, g, n)
   step_is o (no_room a t g n e) = rw (t, g, n, e)
 
-pub then_by : (q : Result Crossing Fault) (f : Crossing → Result Crossing Fault) (last : Crossing) → and_then q f ≡ Ok last → (next : Crossing) × (q ≡ Ok next) × (f next ≡ Ok last)
+pub then_by : (q : Result Crossing Fault) (f : Crossing → Result Crossing Fault) (last : Crossing) → then_crossing q f ≡ Ok last → (next : Crossing) × (q ≡ Ok next) × (f next ≡ Ok last)
 then_by q f last e = grind arith
 
 -- ---- records of a file

@@ -2,10 +2,10 @@
 use Rattle.std.proofs.Common.{◌≡◌, ◌⊎◌, ℕ, zero, suc, ◌+◌, ◌≤◌, List, [], ◌∷◌, ◌++◌, length, take, drop, append_assoc, length-append, Option, Some, None, Result, Ok, Err, Bool, true, false, refl, ap, sym, ◌∙◌, add-one, arith, subst, le-ltb, inl, inr}
 use Rattle.rasta_check.proofs.Prelude.{length_push, take-append-drop, dec_lt, yes, no, nat_tests, Fault, Side, IsCapture, cursor_after, opening, reading, reading_of, bytes_of}
 use Rattle.rasta_check.proofs.Prelude.{IsCapture-reading_of, reading_of-IsCapture, Parameters, AreParameters, AreBytes, FirstCopy, packet_fault, OfConnection, Crossing}
-use Rattle.rasta_check.proofs.Prelude.{after_record, after_records, and_then, crossing_of, is_within, nothing_crossed, sent_by, with_packet, in_header, all_front}
+use Rattle.rasta_check.proofs.Prelude.{after_record, after_records, then_crossing, crossing_of, keeps_limits, nothing_crossed, sent_by, with_packet, in_header, all_front}
 use Rattle.std.proofs.Math.Seq.{take-append-add}
 use Rattle.rasta_pcap.specs.Fault.{fault_at, too_many}
-use Rattle.rasta_pcap.specs.Capture.{Cursor, Reading, reading_opened}
+use Rattle.rasta_pcap.specs.Capture.{FileCursor, Reading, reading_opened}
 use Rattle.rasta_pcap.proofs.Captures.{IsRefused-reading_of, opening-by_reading_of, reading_of-IsRefused, reading_of-header_fault}
 use Rattle.rasta_check.specs.Capture.Faults.{AreFaultless, HasFault, in_frame, in_packet, in_limits, IsFaultlessCapture, IsRefusedCapture, in_reading, in_record, sent_of}
 use Rattle.rasta_check.proofs.Capture.RecordBytes.{AllBytes, file_bytes}
@@ -15,7 +15,7 @@ use Rattle.rasta_check.proofs.Capture.FaultlessCaptures.{IsFaulty, faultless_is_
 -- ---- the first records of a file
 
 -- as they stand among more, no more than are asked for, and where there are as many, no fault
-reading_front : (n m : ℕ) (c : Cursor) → n ≤ m
+reading_front : (n m : ℕ) (c : FileCursor) → n ≤ m
     → (bytes_of (reading n c) ≡ take n (bytes_of (reading m c))) × (length (bytes_of (reading n c)) ≤ n) × (length (bytes_of (reading n c)) ≡ n → (reading n c).fault ≡ None)
 unfolding reading
 reading_front zero m c l = (refl, omega arith, λ e. refl)
@@ -25,7 +25,7 @@ reading_front (suc n) (suc m) c l = (let more = reading_front n m (cursor_after 
 abbrev IsFront : ℕ → Reading → Reading → Type 0
 IsFront n r all = (bytes_of r ≡ take n (bytes_of all)) × (length (bytes_of r) ≤ n) × (1 ≤ n → length (bytes_of r) ≡ n → r.fault ≡ None)
 
-opened_front : (n m : ℕ) (o : Result Cursor Fault) → n ≤ m → IsFront n (reading_opened n o) (reading_opened m o)
+opened_front : (n m : ℕ) (o : Result FileCursor Fault) → n ≤ m → IsFront n (reading_opened n o) (reading_opened m o)
 opened_front zero m (Err f) l = (refl, omega arith, λ a e. absurd (omega arith))
 opened_front (suc n) m (Err f) l = (refl, omega arith, λ a e. absurd (omega arith))
 opened_front n m (Ok c) l = (let w = reading_front n m c l in (w.0, w.1, λ a. w.2))
@@ -51,7 +51,7 @@ unfolding after_records
 goes_on k last [] later end n m at e = grind arith
 goes_on k last (frame ∷ front) later end n m at e =
     let w = then_by (after_record k (n, frame)) (λ (next : Crossing). after_records next (numbered (n + 1) front) None) last e in
-    ap (λ (q : Result Crossing Fault). and_then q (λ (next : Crossing). after_records next (numbered (n + 1) (front ++ later)) end)) w.1 ∙ goes_on w.0 last front later end (n + 1) m (omega arith) w.2
+    ap (λ (q : Result Crossing Fault). then_crossing q (λ (next : Crossing). after_records next (numbered (n + 1) (front ++ later)) end)) w.1 ∙ goes_on w.0 last front later end (n + 1) m (omega arith) w.2
 
 -- ---- the fault of one record
 
@@ -78,12 +78,12 @@ module _ (p : Parameters) (front : List (List ℕ)) (c s : List FirstCopy) (fram
       → after_record k (n, frame) ≡ Err (record { number = number; place = n; end = end })
   fault_is number end (in_frame g found) low h are x = step_is k (n, frame) _ (bad_frame g (le-ltb n p.first_record low) found)
   fault_is number end (in_packet a m found some) low h are x = step_is k (n, frame) _ (bad_packet a m (le-ltb n p.first_record low) found (rw (← own_is) at some))
-  fault_is number end (in_limits a found none is) low h are x = by (is_within (with_packet k a)) refl
+  fault_is number end (in_limits a found none is) low h are x = by (keeps_limits (with_packet k a)) refl
     where
       fine : packet_fault p (sent_by k a.side) a ≡ None
       fine = rw (← own_is) at none
 
-      by : (b : Bool) → is_within (with_packet k a) ≡ b → after_record k (n, frame) ≡ Err (fault_at too_many n)
+      by : (b : Bool) → keeps_limits (with_packet k a) ≡ b → after_record k (n, frame) ≡ Err (fault_at too_many n)
       by true e = absurd (is _ _ (faultless_of p _ (with_packet k a) h are (crossed_more p front frame c s x _ (joined a (le-ltb n p.first_record low) found fine e))))
       by false e = step_is k (n, frame) _ (no_room a (le-ltb n p.first_record low) found fine e)
 
@@ -126,7 +126,7 @@ module _ (p : Parameters) (file : List ℕ) (h : OfConnection p) (are : AreBytes
       (λ i. after_records (nothing_crossed p) (numbered_of p.last_record file i) all.fault)
       ∙ ap (λ (fs : List (List ℕ)). after_records (nothing_crossed p) (numbered 1 fs) all.fault) whole
       ∙ goes_on (nothing_crossed p) (crossing_by p records c s) records (frame ∷ later) all.fault 1 n (omega arith) before
-      ∙ ap (λ (q : Result Crossing Fault). and_then q (λ (m : Crossing). after_records m (numbered (n + 1) later) all.fault)) (fault_is p records c s frame number end fault low h bytes x)
+      ∙ ap (λ (q : Result Crossing Fault). then_crossing q (λ (m : Crossing). after_records m (numbered (n + 1) later) all.fault)) (fault_is p records c s frame number end fault low h bytes x)
 
   -- ---- one answer
 

@@ -3,7 +3,7 @@ use Rattle.std.proofs.Common.{◌≡◌, ◌≤◌, ℕ, length, Bool, true, Lis
 use Rattle.rasta_check.proofs.Prelude.{bytes_eq, bytes_eq-Decides, Side, Packet, redundancy_bytes, decode_of, FirstCopy, Spells, copy_with, packet_fault}
 use Rattle.rasta_check.proofs.Prelude.{position_of_number, Crossing, IsCrossing, sent_by, sent_after}
 use Rattle.rasta_pcap.specs.Fault.{copy_differs}
-use Rattle.rasta_check.specs.Capture.Crossing.{number_in_bytes}
+use Rattle.rasta_check.specs.Capture.SentLists.{number_in_bytes}
 use Rattle.rasta_check.proofs.Capture.Crossings.{few_of, known_by, length_spelled, list_of, number_spelled}
 use Rattle.rasta_check.proofs.Capture.FaultlessLists.{ordered}
 use Rattle.rasta_check.proofs.Capture.PacketFaults.{copy_found, copy_none, reads}

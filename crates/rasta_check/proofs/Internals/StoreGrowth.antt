@@ -6,7 +6,7 @@ use Rattle.rasta_check.proofs.Prelude.{position_of_place, Crossing, IsCrossing, 
 use Rattle.rasta_check.proofs.Prelude.{slice_get_some, all_push}
 use Rattle.rasta_pdu.proofs.Spellings.{length-redundancy_bytes}
 use Rattle.rasta_check.specs.Internals.Datagrams.{keeping, nothing_kept}
-use Rattle.rasta_check.specs.Internals.Stored.{Decode, HavePositions, IsJudged, copy_in, first_copies_from, packet_by}
+use Rattle.rasta_check.specs.Internals.Stored.{Decode, HavePositions, HasPosition, copy_in, first_copies_from, packet_by}
 use Rattle.rasta_check.proofs.Capture.Crossings.{list_of}
 use Rattle.rasta_check.proofs.Capture.FaultlessLists.{ordered}
 use Rattle.rasta_check.proofs.Capture.Positions.{place_pushed, place_missing, place_named}
@@ -85,7 +85,7 @@ module _ (p : Parameters) (d : KeptDatagrams) (packets : List StoredPacket) (st 
   stored position = record { position = position; channel = a.channel; side = a.side }
 
   -- a packet that repeats a first copy adds no bytes
-  pub grown_copy : (position : ℕ) (all : List StoredPacket) → IsJudged k a (Some position) → all ≡ packets ++ stored position ∷ []
+  pub grown_copy : (position : ℕ) (all : List StoredPacket) → HasPosition k a (Some position) → all ≡ packets ++ stored position ∷ []
       → IsStore p d all × (crossing_by p d all ≡ with_packet k a)
   grown_copy position all j e =
       let size = ap length (sent_is p d packets a.side) ∙ length-map (kept_by d a.side) (copy_in p a.side) in
@@ -97,7 +97,7 @@ module _ (p : Parameters) (d : KeptDatagrams) (packets : List StoredPacket) (st 
       rw e (grown d (stored position) (sent_by k a.side) j.3 (λ side i x g. g) here (λ s. grind (arith, sent_is)) st.decode within (λ s q l. grind arith) (grind (arith, append-nil)))
 
   -- the bytes of one whose number is new come last
-  pub grown_new : (position place : ℕ) (more : KeptDatagrams) (all : List StoredPacket) → place ≡ length packets → position ≡ length (kept_by d a.side) → IsJudged k a None
+  pub grown_new : (position place : ℕ) (more : KeptDatagrams) (all : List StoredPacket) → place ≡ length packets → position ≡ length (kept_by d a.side) → HasPosition k a None
       → more ≡ keeping d a.side (record { place = place; bytes = a.payload }) → all ≡ packets ++ stored position ∷ []
       → IsStore p more all × (crossing_by p more all ≡ with_packet k a)
   grown_new position place more all at last j m e =
@@ -121,7 +121,7 @@ pub datagram_fits : (p : Parameters) (side : Side) (pdu : RedundancyPdu) (bytes 
 datagram_fits p side pdu bytes valid s = (let n = ap length s.same ∙ length-redundancy_bytes p side pdu valid s.fits in let few = s.fits.size in omega arith)
 
 -- a list of its side goes on where its number is new
-pub judged_length : (k : Crossing) (a : Packet) (known : Option ℕ) (is_new : Bool) → IsJudged k a known → is_some known ≡ not is_new → length (sent_after k a) ≡ length (sent_by k a.side) + (if is_new then 1 else 0)
+pub judged_length : (k : Crossing) (a : Packet) (known : Option ℕ) (is_new : Bool) → HasPosition k a known → is_some known ≡ not is_new → length (sent_after k a) ≡ length (sent_by k a.side) + (if is_new then 1 else 0)
 judged_length k a known is_new j e = grind (arith, length_push)
 
 -- ---- at the start

@@ -2,7 +2,7 @@
 use Rattle.std.proofs.Common.{◌≡◌, ℕ, zero, suc, ◌+◌, ◌<◌, ◌≤◌, Bool, true, false, List, [], ◌∷◌, ◌++◌, length, Some, slice_get, take, refl, ap, sym, arith, ⊎_elim}
 use Rattle.rasta_check.proofs.Prelude.{length_push, slice_get_within, Side, RetransmissionRequest, RetransmissionResponse, SafetyPdu, is_kind, Parameters, Phase, Closed, Start, Up}
 use Rattle.rasta_check.proofs.Prelude.{RetrReq, RetrRun, TakeRow, Opened, Answered, FirstHeartbeat, InSequence, ResentInSequence, Gap, GapInRetransmission, Resumed, Requested}
-use Rattle.rasta_check.proofs.Prelude.{RequestedAhead, RequestedAgain, Disconnected, Owed, OweRetransmissionRequest, OweResend, Made, EndState, is_closed, is_flowing, is_connected}
+use Rattle.rasta_check.proofs.Prelude.{RequestedAhead, RequestedWhileAsking, Disconnected, Owed, OweRetransmissionRequest, OweResend, Made, EndState, is_closed, is_flowing, is_connected}
 use Rattle.rasta_check.proofs.Prelude.{is_valid, position_confirmed, resends, after_take, get_push_cases}
 use Rattle.rasta_end.specs.TakeRule.{steps_past_next, accept, burst}
 use Rattle.rasta_check.proofs.Model.TakeRows.{Knows, bare_effect, take_bare}
@@ -182,9 +182,9 @@ module _ (q : Parameters) (e f : EndState) (t u : ℕ) (m : Made) (p : ℕ) (k :
     by_row RequestedAhead w =
         let o = burst_and_request e (position_confirmed e m.pdu) in
         waits RequestedAhead w refl RetrReq _ _ _ refl (confirms (ap is_named w.1) w.2) o.response (burdened RetrReq _ w.1 w.2 o (grind (arith, w)))
-    by_row RequestedAgain w =
+    by_row RequestedWhileAsking w =
         let o = burst_burdens e (position_confirmed e m.pdu) in
-        waits RequestedAgain w refl e.phase _ _ _ (ap is_connected w.0) (confirms (ap is_named w.1) w.2) o.response (burdened e.phase _ w.1 w.2 o (omega arith))
+        waits RequestedWhileAsking w refl e.phase _ _ _ (ap is_connected w.0) (confirms (ap is_named w.1) w.2) o.response (burdened e.phase _ w.1 w.2 o (omega arith))
     by_row Disconnected w = holds (grind (arith, k.mine.opening.unmade)) (unchanged Closed (bit_most e.phase)) skipped k.mine.confirmed
 
   pub own_take : (is_closed e.phase ≡ false → e.owed ≡ []) → Held (after_take q e m.pdu) (suc p) f.made

@@ -1,7 +1,7 @@
 -- Every run keeps what holds.
 use Rattle.std.proofs.Common.{◌≡◌, ℕ, suc, ◌≤◌, false, List, [], length, Option, Some, None, refl, ap, sym, subst, ◌∙◌, arith}
 use Rattle.rasta_check.proofs.Prelude.{length_push, Side, Client, Server, Packet, Parameters, Quiet, EndState, is_closed, after_make_by, take_fault, start_by, Station, World, Move}
-use Rattle.rasta_check.proofs.Prelude.{Moves, makes, takes, side_moves, station_of, end_of, other_side, Reaches, begins, goes_on, first_station, IsWithin}
+use Rattle.rasta_check.proofs.Prelude.{Moves, makes, takes, side_moves, station_of, end_of, other_side, Reaches, begins, goes_on, first_station, KeepsLimit}
 use Rattle.rasta_pdu.specs.declared.quiet_point.QuietEnd.{QuietEnd}
 use Rattle.rasta_end.specs.Starts.{sn_before, quiet_pdu, quiet_end}
 use Rattle.rasta_check.proofs.Model.MakeRows.{passed, made_by, after_row, new_made}
@@ -23,8 +23,8 @@ pub record InRun (e : EndState) (t : ℕ) (f : EndState) : Type 0 where
 
 -- so it is of both stations
 pub record All (a b : Station) : Type 0 where
-  pub mine : InRun a.state a.taken b.state
-  pub theirs : InRun b.state b.taken a.state
+  pub mine : InRun a.state a.mark b.state
+  pub theirs : InRun b.state b.mark a.state
 
 -- ---- the start: a fresh end, or one at a quiet point
 
@@ -54,7 +54,7 @@ all_kept p b a a' xs ys move (makes x why after channel reserve check bytes mk s
     subst (λ (e : EndState). All (record a { state = e }) b) now (record {
       mine = grind (arith, handed_make, own_make, shown_make, valued_make);
       theirs = record {
-        held = peer_make b.state b.taken a.state.made _ h.theirs.held;
+        held = peer_make b.state b.mark a.state.made _ h.theirs.held;
         values = h.theirs.values;
         handed = handed_peer b.state a.state _ (let z = h.theirs.held.accepts in omega (arith, z.reached, z.within)) grown h.theirs.handed;
         shown = shown_peer_make b.state a.state x a.clock why by grown h.theirs.shown;
@@ -64,21 +64,21 @@ all_kept p b a a' xs ys move (takes position m after c i s t) g = λ l r. (
     let same : after.made ≡ a.state.made = ap (λ (e : EndState). e.made) t.1 ∙ take_made p a.state m.pdu in
     let few : length a.state.made ≤ 1000001 = rw same at l in
     let h = g few r in
-    let k : Taken a.state b.state a.taken b.taken m position = record { mine = h.mine.held; theirs = h.theirs.held; there = s; above = i; few = few; few_theirs = r } in
+    let k : Taken a.state b.state a.mark b.mark m position = record { mine = h.mine.held; theirs = h.theirs.held; there = s; above = i; few = few; few_theirs = r } in
     let fr = free p a.state a.clock t.0 in
     let grown = grown_take p a.state m.pdu h.mine.held.asks.asked in
-    subst (λ (e : EndState). All (record a { state = e; taken = suc position }) b) (sym t.1) (record {
+    subst (λ (e : EndState). All (record a { state = e; mark = suc position }) b) (sym t.1) (record {
       mine = record {
-        held = own_take p a.state b.state a.taken b.taken m position k fr;
-        values = valued_take p a.state b.state a.taken b.taken m position k h.mine.values fr;
-        handed = handed_take p a.state b.state a.taken b.taken m position k h.mine.handed h.theirs.values fr;
-        shown = shown_take p a.state b.state m.pdu a.taken h.mine.held h.mine.shown;
+        held = own_take p a.state b.state a.mark b.mark m position k fr;
+        values = valued_take p a.state b.state a.mark b.mark m position k h.mine.values fr;
+        handed = handed_take p a.state b.state a.mark b.mark m position k h.mine.handed h.theirs.values fr;
+        shown = shown_take p a.state b.state m.pdu a.mark h.mine.held h.mine.shown;
       };
       theirs = record {
         held = rw (take_made p a.state m.pdu) h.theirs.held;
         values = h.theirs.values;
         handed = handed_peer b.state a.state _ (let z = h.theirs.held.accepts in omega (arith, z.reached, z.within)) grown h.theirs.handed;
-        shown = shown_peer_take p b.state a.state b.taken m position h.theirs.held s grown h.theirs.shown;
+        shown = shown_peer_take p b.state a.state b.mark m position h.theirs.held s grown h.theirs.shown;
       };
     }))
 all_kept p b a a' xs ys move _ g = λ l r. (let h = g l r in record { mine = h.mine; theirs = h.theirs })
@@ -107,10 +107,10 @@ first_in_run (Some q) Client = quiet_in_run Client Server q.client q.server
 first_in_run (Some q) Server = quiet_in_run Server Client q.server q.client
 
 -- no end has made more than 1,000,001 PDUs
-pub few_made : (p : Parameters) (w : World) → IsWithin p w → (side : Side) → length (end_of w side).made ≤ 1000001
+pub few_made : (p : Parameters) (w : World) → KeepsLimit p w → (side : Side) → length (end_of w side).made ≤ 1000001
 few_made p w within side = omega (arith, within side, start_base p.quiet side, base_small p.quiet)
 
-pub all_held : (p : Parameters) (ws : List World) (w : World) (side : Side) → Reaches p ws w → IsWithin p w → All (station_of w side) (station_of w (other_side side))
+pub all_held : (p : Parameters) (ws : List World) (w : World) (side : Side) → Reaches p ws w → KeepsLimit p w → All (station_of w side) (station_of w (other_side side))
 all_held p ws w side r within =
     always p Whole (λ a b g l m. (let h = g m l in record { mine = h.theirs; theirs = h.mine }))
     (λ m n l k. record { mine = first_in_run p.quiet Client; theirs = first_in_run p.quiet Server }) (all_kept p) ws w side r (few_made p w within side) (few_made p w within (other_side side))

@@ -9,7 +9,7 @@ use Rattle.std.proofs.lemmas.Bool.{and_parts}
 use Rattle.std.specs.Bool.{then_some}
 use Rattle.rasta_pdu.specs.declared.kind.Kind.TheVariants.{Heartbeat}
 use Rattle.rasta_end.specs.declared.why.Why.TheVariants.{Open, Reply, Beat, Fresh, Again, Ask, Bye, Expired}
-use Rattle.rasta_end.specs.declared.make_row.MakeRow.TheVariants.{Opens, Answers, StartsBeating, Returns, Resends, Requests, Beats, Offers, Leaves, TimesOut}
+use Rattle.rasta_end.specs.declared.make_row.MakeRow.TheVariants.{Opens, Answers, StartsBeating, Resumes, Resends, Requests, Beats, Offers, Leaves, TimesOut}
 use Rattle.rasta_end.specs.declared.owed.Owed.TheVariants.{FirstHeartbeat as OweFirstHeartbeat}
 use Rattle.rasta_end.specs.declared.owed.Demand.{Demand}
 use Rattle.rasta_end.specs.declared.owed.Demand.TheVariants.{First, Nothing, Anything}
@@ -46,7 +46,7 @@ pub data Making : Side → Phase → Why → Kind → List Owed → MakeRow → 
   opening : {os : List Owed} → Making Client Closed Open ConnectionRequest os Opens
   response : {os : List Owed} → Making Server Start Reply ConnectionResponse (OweConnectionResponse ∷ os) Answers
   first_beat : {os : List Owed} → Making Client Up Reply Heartbeat (OweFirstHeartbeat ∷ os) StartsBeating
-  answer : {s : Side} {ph : Phase} {os : List Owed} → is_connected ph ≡ true → Making s ph Reply RetransmissionResponse (OweRetransmissionResponse ∷ os) Returns
+  answer : {s : Side} {ph : Phase} {os : List Owed} → is_connected ph ≡ true → Making s ph Reply RetransmissionResponse (OweRetransmissionResponse ∷ os) Resumes
   again : {s : Side} {ph : Phase} {k : ℕ} {os : List Owed} → is_connected ph ≡ true → Making s ph (Again k) RetransmittedData (OweResend k ∷ os) (Resends k)
   ask : {s : Side} {ph : Phase} {os : List Owed} → is_connected ph ≡ true → Making s ph Ask RetransmissionRequest (OweRetransmissionRequest ∷ os) Requests
   beat : {s : Side} {ph : Phase} → is_connected ph ≡ true → Making s ph Beat Heartbeat [] Beats
@@ -79,7 +79,7 @@ unfolding Met
 making s ph reason Open ConnectionRequest os e f = row_by Opens _ os e f (λ b m. (let z : (s ≡ Client) × (ph ≡ Closed) = grind (arith, b) in rw (z.0, z.1) opening))
 making s ph reason Reply ConnectionResponse os e f = row_by Answers _ os e f (λ b m. (let z : (s ≡ Server) × (ph ≡ Start) = grind (arith, b) in rw (z.0, z.1, m.1) response))
 making s ph reason Reply Heartbeat os e f = row_by StartsBeating _ os e f (λ b m. (let z : (s ≡ Client) × (ph ≡ Up) = grind (arith, b) in rw (z.0, z.1, m.1) first_beat))
-making s ph reason Reply RetransmissionResponse os e f = row_by Returns _ os e f (λ b m. rw m.1 (answer b))
+making s ph reason Reply RetransmissionResponse os e f = row_by Resumes _ os e f (λ b m. rw m.1 (answer b))
 making s ph reason (Again j) RetransmittedData os e f = row_by (Resends j) _ os e f (λ b m. rw m.1 (again b))
 making s ph reason Ask RetransmissionRequest os e f = row_by Requests _ os e f (λ b m. rw m.1 (ask b))
 making s ph reason Beat Heartbeat os e f = row_by Beats _ os e f (λ b m. rw m (beat b))

@@ -4,11 +4,10 @@ use Rattle.std.proofs.Common.{length-append}
 use Rattle.rasta_check.proofs.Prelude.{slice_index_or, unwrap_or-slice_get, Side, Phase, Owed, OweRetransmissionResponse, OweResend, Made, EndState, kinds, is_connected, carries_unit}
 use Rattle.rasta_check.proofs.Prelude.{content_of, last_of, units_at, contents, resends, is_kind, Data, take-append_seam, take-append-le, append-nil, length_push, slice_get_within}
 use Rattle.rasta_check.proofs.Prelude.{slice_get-get_or, bytes_eq-Decides, Client, Kind, RetransmissionResponse, Parameters, SafetyPdu, Closed, Why, MakeRow, OweRetransmissionRequest}
-use Rattle.rasta_check.proofs.Prelude.{TakeRow, Requested, RequestedAhead, RequestedAgain, is_closed, position_confirmed, phase_after, after_make_by, after_take, all_push, get_front}
+use Rattle.rasta_check.proofs.Prelude.{TakeRow, Requested, RequestedAhead, RequestedWhileAsking, is_closed, position_confirmed, phase_after, after_make_by, after_take, all_push, get_front}
 use Rattle.rasta_check.proofs.Prelude.{get_front_within, get_push}
 use Rattle.rasta_end.specs.Units.{all_units_conveyed, units_after, units_conveyed}
 use Rattle.rasta_end.specs.MakeRule.{differs, unit_of, owed_after, offered_after}
-use Rattle.rasta_end.specs.TakeRule.{note_ask}
 use Rattle.rasta_check.proofs.Model.Counts.{answers_in, IsAnswer, number_take_all, number_take_at}
 use Rattle.rasta_check.proofs.Model.ConveyedUnits.{is_plain, values, jump, last_push, last_get, values_push, values_asks, length-values, units_next, after_is}
 use Rattle.rasta_check.proofs.Model.Invariant.{ended, Held}
@@ -221,7 +220,7 @@ module _ (q : Parameters) (e f : EndState) (t u : ℕ) (m : Made) (p : ℕ) (k :
 
   -- the end once it has
   abbrev asked : EndState
-  asked = note_ask (position_confirmed e m.pdu) e
+  asked = record e { asks = e.asks ++ position_confirmed e m.pdu ∷ [] }
 
   same_values : values asked ≡ values e
   same_values = values_asks e.asks _ e.made k.mine.asks.asked
@@ -258,7 +257,7 @@ module _ (q : Parameters) (e f : EndState) (t u : ℕ) (m : Made) (p : ℕ) (k :
   v_row : (r : TakeRow) → Knows q r e m.pdu → Valued (bare_effect q r e m.pdu)
   v_row Requested x = burdened Requested x refl (rw (append-nil (resends back (e.offered - back))) at (burst_due [] refl))
   v_row RequestedAhead x = burdened RequestedAhead x refl (burst_due (OweRetransmissionRequest ∷ []) refl)
-  v_row RequestedAgain x = burdened RequestedAgain x refl (rw (append-nil (resends back (e.offered - back))) at (burst_due [] refl))
+  v_row RequestedWhileAsking x = burdened RequestedWhileAsking x refl (rw (append-nil (resends back (e.offered - back))) at (burst_due [] refl))
   v_row r x = grind (arith, w, bare_due, mark q e f t u m p k, inner_some r x)
 
 pub valued_take : (q : Parameters) (e f : EndState) (t u : ℕ) (m : Made) (p : ℕ) (k : Taken e f t u m p) (w : Valued e) → (is_closed e.phase ≡ false → e.owed ≡ []) → Valued (after_take q e m.pdu)

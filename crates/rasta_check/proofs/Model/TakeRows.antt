@@ -2,12 +2,12 @@
 use Rattle.std.proofs.Common.{◌≡◌, ◌+◌, ◌≤◌, ◌^◌, ℕ, Bool, true, false, Option, Some, None, refl, arith}
 use Rattle.rasta_check.proofs.Prelude.{if◌then◌else◌, Side, Client, Server, Kind, ConnectionRequest, ConnectionResponse, RetransmissionRequest, RetransmissionResponse}
 use Rattle.rasta_check.proofs.Prelude.{DisconnectionRequest, RetransmittedData, SafetyPdu, Parameters, Phase, Start, Up, RetrReq, RetrRun, TakeRow, Opened, Answered, FirstHeartbeat}
-use Rattle.rasta_check.proofs.Prelude.{InSequence, ResentInSequence, Gap, GapInRetransmission, Resumed, Requested, RequestedAhead, RequestedAgain, Disconnected, EndState, is_closed}
+use Rattle.rasta_check.proofs.Prelude.{InSequence, ResentInSequence, Gap, GapInRetransmission, Resumed, Requested, RequestedAhead, RequestedWhileAsking, Disconnected, EndState, is_closed}
 use Rattle.rasta_check.proofs.Prelude.{is_flowing, carries_unit, first_that_holds, is_valid, effect, after_take}
 use Rattle.rasta_pdu.specs.declared.kind.Kind.TheVariants.{Heartbeat}
 use Rattle.rasta_end.specs.declared.phase.Phase.TheVariants.{Down}
-use Rattle.rasta_end.specs.State.{is_active, is_timed}
-use Rattle.rasta_end.specs.TakeRule.{is_heartbeat_or_data, take_rows, is_in, is_ahead, take_row, effect_by, accept, enter, hand_up}
+use Rattle.rasta_end.specs.State.{is_active, is_timed, is_heartbeat_or_data}
+use Rattle.rasta_end.specs.TakeRule.{take_rows, is_in, is_ahead, take_row, effect_by, accept, enter, hand_up}
 
 -- what a row knows of side, phase and type, and of the tests: next in sequence, ahead, a valid CS
 abbrev pub Premise : TakeRow → Side → Phase → Kind → Bool → Bool → Bool → Type 0
@@ -21,7 +21,7 @@ Premise GapInRetransmission s ph k n a v = (ph ≡ RetrRun) × (is_timed k ≡ t
 Premise Resumed s ph k n a v = (ph ≡ RetrReq) × (k ≡ RetransmissionResponse) × (v ≡ true)
 Premise Requested s ph k n a v = (is_flowing ph ≡ true) × (k ≡ RetransmissionRequest) × (v ≡ true) × (n ≡ true)
 Premise RequestedAhead s ph k n a v = (is_flowing ph ≡ true) × (k ≡ RetransmissionRequest) × (v ≡ true) × (a ≡ true)
-Premise RequestedAgain s ph k n a v = (ph ≡ RetrReq) × (k ≡ RetransmissionRequest) × (v ≡ true) × (a ≡ true)
+Premise RequestedWhileAsking s ph k n a v = (ph ≡ RetrReq) × (k ≡ RetransmissionRequest) × (v ≡ true) × (a ≡ true)
 Premise Disconnected s ph k n a v = (is_active ph ≡ true) × (k ≡ DisconnectionRequest)
 
 -- the first row whose test holds has its premise

@@ -1,6 +1,6 @@
 -- The takes that are due at a level, with their lines.
 use Rattle.std.proofs.Common.{◌≡◌, ℕ, suc, ◌+◌, ◌<◌, ◌≤◌, List, [], ◌∷◌, length, refl, ap, sym, ◌∙◌, arith}
-use Rattle.rasta_check.proofs.Prelude.{slice_get_within, yes, no, Side, Packet, Parameters, Entry, Take, Make, EndState, wrapped, Takes, FirstCopy, Station, Cursor, Advances}
+use Rattle.rasta_check.proofs.Prelude.{slice_get_within, yes, no, Side, Packet, Parameters, Entry, Take, Make, EndState, wrapped, Takes, FirstCopy, Station, ScriptCursor, Advances}
 use Rattle.rasta_check.proofs.Prelude.{takes_next, Leads, arrives, takes, takes_at, slice_get_some}
 use native.Mathlib.Decide.{dec_le}
 use Rattle.rasta_check.specs.Model.World.{arriving, taking}
@@ -13,7 +13,7 @@ use Rattle.rasta_check.proofs.Run.Entries.{takes_here, takes_none, takes_past}
 use Rattle.rasta_check.proofs.Run.Rests.{place_of, Above, says_all, says_take, lead_above, no_takes, Left, left_on}
 use Rattle.rasta_check.proofs.Run.Moves.{Many, stays, moves, append_many, recast}
 
-module _ (p : Parameters) (n : ℕ) (s : Side) (own peer : List FirstCopy) (last : Cursor) (k : ℕ) where
+module _ (p : Parameters) (n : ℕ) (s : Side) (own peer : List FirstCopy) (last : ScriptCursor) (k : ℕ) where
   -- where no take is due, the next entry lies at this level or above, and all after it above
   pub ahead : (j : ℕ) (x : Entry) (es : List Entry) (a : Station) → k ≤ j → j ≤ suc k → Tracks p n j s own peer (x ∷ es) last a → Drained k (x ∷ es) → (j ≤ place_of x) × Above (suc k) es
   ahead j x es a h1 h2 h3 h4 = grind (arith, lead_above, place_of)
@@ -30,34 +30,34 @@ module _ (p : Parameters) (n : ℕ) (s : Side) (own peer : List FirstCopy) (last
   above_next (x ∷ es) a f dr = ahead (suc k) x es a (omega arith) (omega arith) f dr
 
 -- a side beside its peer, whose station stands still
-module _ (p : Parameters) (packets : List Packet) (n k : ℕ) (s r : Side) (own peer : List FirstCopy) (sent : IsSent p packets r peer) (last last' : Cursor) (b : Station) (bs : List Entry) (g : Tracks p n k r peer own bs last' b)
+module _ (p : Parameters) (packets : List Packet) (n k : ℕ) (s r : Side) (own peer : List FirstCopy) (sent : IsSent p packets r peer) (last last' : ScriptCursor) (b : Station) (bs : List Entry) (g : Tracks p n k r peer own bs last' b)
     (xs : List Packet) (long : length xs ≡ k) where
   -- what the takes of a level leave: the lines are those of the level, and of later levels the rest says what the script says
   abbrev pub Drain : List Entry → Station → Type 0
   Drain from a = (station : Station) × Many p b s xs a (takes_lines k s from) station xs × Left p n k s own peer last (Drained k) (suc k) k from station
 
-  one_take : (slot number : ℕ) (es : List Entry) (a : Station) (m : Cursor) → (f : Tracks p n k s own peer (Take slot number ∷ es) last a) → slot ≡ k
-      → Advances p n own peer (record { level = f.level; made = f.made; taken = f.taken; state = a.state }) (Take slot number) m → Leads p n own peer m es last
+  one_take : (slot number : ℕ) (es : List Entry) (a : Station) (m : ScriptCursor) → (f : Tracks p n k s own peer (Take slot number ∷ es) last a) → slot ≡ k
+      → Advances p n own peer (record { level = f.level; made_count = f.made_count; passed = f.passed; state = a.state }) (Take slot number) m → Leads p n own peer m es last
       → (a' : Station) × Many p b s xs a (brought_line k s number ∷ take_line k s number ∷ []) a' xs × Tracks p n k s own peer es last a'
   one_take slot number es a m f l (takes_next slot' position c e' lv le there below above t0) rest =
-      let w : position < g.made = g.before position c there (omega (arith, below, l)) in
+      let w : position < g.made_count = g.before position c there (omega (arith, below, l)) in
       let x = g.same position c there w in
       let t : Takes p a.state x.0.pdu a.clock e' = rw (x.2, f.clock) t0 in
       let left = take_leaves p a.state x.0.pdu in
       let same_made : e'.made ≡ a.state.made = ap (λ (e : EndState). e.made) t.1 ∙ left.made in
       let q : ℕ = base p + position in
       let low : b.state.base ≤ q = (let z = g.based in omega arith) in
-      let passed_mark : a.taken ≤ q = omega (arith, f.mark, above) in
+      let passed_mark : a.mark ≤ q = omega (arith, f.mark, above) in
       let head = slice_get_some peer 0 (omega (arith, slice_get_within peer position c there)) in
       let numbered : wrapped (b.first_number + q) ≡ c.pdu.number =
       next_number b.first_number (base p) position q head.0.pdu.number refl (g.number head.0 head.1) ∙ sym (sent.numbers position head.0 c head.1 there) in (
-        record a { arrived = q ∷ a.arrived; state = e'; taken = suc q },
+        record a { arrived = q ∷ a.arrived; state = e'; mark = suc q },
         recast (λ i. brought_line (long i) s (numbered i) ∷ take_line (long i) s (numbered i) ∷ []) refl
             (moves (arriving q) (arrives q low (omega (arith, g.count, w))) (moves (taking q) (takes q x.0 e' (0, omega arith, refl) passed_mark x.1 t) stays)),
         record {
           level = slot;
-          made = f.made;
-          taken = suc position;
+          made_count = f.made_count;
+          passed = suc position;
           low = omega (arith, l);
           fits = rest;
           based = ap (λ (e : EndState). e.base) t.1 ∙ (left.base ∙ f.based);

@@ -1,7 +1,7 @@
 -- Scripts cut after their last make: a run in which no more is handed up than the two lists show.
 use Rattle.std.proofs.Common.{◌≡◌, ◌⊎◌, ℕ, zero, suc, ◌<◌, ◌≤◌, false, List, [], ◌∷◌, length, Some, slice_get, refl, ap, sym, ◌∙◌, arith, inl, inr, ⊎_elim}
 use Rattle.rasta_check.proofs.Prelude.{Side, Client, Server, Packet, Kind, Parameters, SafetyPdu, Entry, Why, EndState, Makes, start_of, FirstCopy, CrossRecorded, World, Reaches}
-use Rattle.rasta_check.proofs.Prelude.{other_side, station_of, end_of, Cursor, Advances, Leads, at_start, Follows, ConnectionRequest, is_kind}
+use Rattle.rasta_check.proofs.Prelude.{other_side, station_of, end_of, ScriptCursor, Advances, Leads, at_start, Follows, ConnectionRequest, is_kind}
 use Rattle.rasta_check.proofs.Prelude.{units_at, after_make_by, NamesOne, pdus_made, pdus_of, all_made, units_along, units_shown, units_taken, position_with}
 use Rattle.rasta_check.proofs.Prelude.{surely_taken, units_handed, units_listed, map_at}
 use Rattle.rasta_check.proofs.Capture.FaultlessLists.{IsSent}
@@ -29,19 +29,19 @@ pub record JustMade (p : Parameters) (own : List FirstCopy) (v : EndState) : Typ
   pub makes : Makes p e c.pdu.safety clock why v
 
 module _ (p : Parameters) (n : ℕ) (own peer : List FirstCopy) where
-  done : (u m : Cursor) (x : Entry) → Advances p n own peer u x m → (u.made ≡ m.made) ⊎ JustMade p own m.state
+  done : (u m : ScriptCursor) (x : Entry) → Advances p n own peer u x m → (u.made_count ≡ m.made_count) ⊎ JustMade p own m.state
   done u m x h1 = grind arith
 
   -- a script without the takes after its last make
-  abbrev Cut : Cursor → Cursor → Type 0
-  Cut u v = (cs : List Entry) × (w : Cursor) × Leads p n own peer u cs w × (w.made ≡ v.made) × ((w ≡ u) ⊎ JustMade p own w.state)
+  abbrev Cut : ScriptCursor → ScriptCursor → Type 0
+  Cut u v = (cs : List Entry) × (w : ScriptCursor) × Leads p n own peer u cs w × (w.made_count ≡ v.made_count) × ((w ≡ u) ⊎ JustMade p own w.state)
 
-  cut : (u v : Cursor) (es : List Entry) → Leads p n own peer u es v → Cut u v
-  cut u v [] f = ([], u, refl, ap (λ (z : Cursor). z.made) f, inl refl)
+  cut : (u v : ScriptCursor) (es : List Entry) → Leads p n own peer u es v → Cut u v
+  cut u v [] f = ([], u, refl, ap (λ (z : ScriptCursor). z.made_count) f, inl refl)
   cut u v (x ∷ es) f = by (done u f.0 x f.1) (cut f.0 v es f.2)
     where
-      by : (u.made ≡ f.0.made) ⊎ JustMade p own f.0.state → Cut f.0 v → Cut u v
-      by (inl e) (cs, w, l, m, inl q) = ([], u, refl, e ∙ (ap (λ (z : Cursor). z.made) (sym q) ∙ m), inl refl)
+      by : (u.made_count ≡ f.0.made_count) ⊎ JustMade p own f.0.state → Cut f.0 v → Cut u v
+      by (inl e) (cs, w, l, m, inl q) = ([], u, refl, e ∙ (ap (λ (z : ScriptCursor). z.made_count) (sym q) ∙ m), inl refl)
       by (inr j) (cs, w, l, m, inl q) = (x ∷ cs, w, (f.0, f.1, l), m, inr (rw q j))
       by _ (cs, w, l, m, inr j) = (x ∷ cs, w, (f.0, f.1, l), m, inr j)
 
@@ -50,7 +50,7 @@ module _ (p : Parameters) (n : ℕ) (own peer : List FirstCopy) where
       → (cs : List Entry) × (e' : EndState) × Follows p s n own peer cs e' × ((e' ≡ start_of p s) ⊎ JustMade p own e')
   cut_fits s es e f =
       let r = cut (at_start (start_of p s)) f.0 es f.1 in
-      (r.0, r.1.state, (r.1, r.2, r.3 ∙ f.2, refl), ⊎_elim (λ (q : r.1 ≡ at_start (start_of p s)). inl (ap (λ (z : Cursor). z.state) q)) (λ (j : JustMade p own r.1.state). inr j) r.4)
+      (r.0, r.1.state, (r.1, r.2, r.3 ∙ f.2, refl), ⊎_elim (λ (q : r.1 ≡ at_start (start_of p s)). inl (ap (λ (z : ScriptCursor). z.state) q)) (λ (j : JustMade p own r.1.state). inr j) r.4)
 
 -- ---- an end that has just made something has handed up no more than that shows
 
@@ -94,7 +94,7 @@ exactly p ws w x own peer r sent theirs few few_theirs last =
     let e = end_of w (other_side x) in
     let f = end_of w x in
     exactly_listed p x e f own peer k.sends.same (hands_up_units e f k.all.mine.values k.all.theirs.handed) k.taken
-    (no_more p (other_side x) e f (station_of w (other_side x)).taken (station_of w x).taken peer (all_made p x own) k.all.theirs.held k.once k.all.theirs.handed k.sends.same k.along last)
+    (no_more p (other_side x) e f (station_of w (other_side x)).mark (station_of w x).mark peer (all_made p x own) k.all.theirs.held k.once k.all.theirs.handed k.sends.same k.along last)
 
 pub sharp : (p : Parameters) (packets : List Packet) (c s : List FirstCopy) (cs ss : List Entry) (a b : EndState)
     → CrossRecorded p packets → IsSent p packets Client c → IsSent p packets Server s → length c ≤ 1000000 → length s ≤ 1000000

@@ -1,8 +1,8 @@
 -- The script that fits is the one that the code follows to its end, and the first fault of another is the one that the code answers.
 use Rattle.std.proofs.Common.{◌≡◌, ℕ, suc, ◌+◌, ◌<◌, ◌≤◌, true, false, List, [], ◌∷◌, ◌++◌, length, Option, Some, None, Result, Ok, Err, slice_get, ◌⊎◌, inl, inr, refl, ap, sym, ◌∙◌, arith, subst}
 use Rattle.rasta_check.proofs.Prelude.{◌==◌, nat_tests, append-nil, append_assoc, length-append, slice_get_within, Fault, Side, Client, Server, Parameters, Entry, Take, Make}
-use Rattle.rasta_check.proofs.Prelude.{EndState, Makes, start_of, FirstCopy, Cursor, at_start, Follows, fault_of_end, Scripts, make_fault, after_make, first_that_holds}
-use Rattle.rasta_check.proofs.Prelude.{copy_with, IsOrdered, position_of_number, position_of_place, unless, made_there, follow_from, follow, Explained, BothFit}
+use Rattle.rasta_check.proofs.Prelude.{EndState, Makes, start_of, FirstCopy, ScriptCursor, at_start, Follows, fault_of_end, Scripts, make_fault, after_make, first_that_holds}
+use Rattle.rasta_check.proofs.Prelude.{copy_with, IsOrdered, position_of_number, position_of_place, cursor_unless, made_there, follow_from, follow, Explained, BothFit}
 use Rattle.rasta_check.proofs.Prelude.{report_of, slice_get_some, get_past}
 use Rattle.std.specs.Option.{option_or}
 use Rattle.rasta_pcap.specs.Fault.{make_missing}
@@ -28,35 +28,35 @@ module _ (p : Parameters) (packets : ℕ) (own peer : List FirstCopy) where
   -- ---- entries from a cursor on
 
   -- these entries fit from here on
-  record FitsFrom (u : Cursor) (xs : List Entry) (made : List FirstCopy) (taken : List ℕ) (e : EndState) : Type 0 where
+  record FitsFrom (u : ScriptCursor) (xs : List Entry) (made : List FirstCopy) (taken : List ℕ) (e : EndState) : Type 0 where
     makes : places_made xs ≡ places_of made
     slots : AreInOrder packets u.level xs
-    takes : AreNamed peer u.taken xs taken
+    takes : AreNamed peer u.passed xs taken
     ends : Joins p peer u.state xs made e
 
   -- the cursor behind them
-  abbrev reached : Cursor → List Entry → List FirstCopy → List ℕ → EndState → Cursor
-  reached u xs made taken e = record { level = level_after u.level xs; made = counted u.made made; taken = position_after u.taken taken; state = e }
+  abbrev reached : ScriptCursor → List Entry → List FirstCopy → List ℕ → EndState → ScriptCursor
+  reached u xs made taken e = record { level = level_after u.level xs; made_count = counted u.made_count made; passed = position_after u.passed taken; state = e }
 
   -- these own PDUs are left at the cursor
-  abbrev Rests : Cursor → List FirstCopy → Type 0
-  Rests u left = (j : ℕ) → slice_get own (u.made + j) ≡ slice_get left j
+  abbrev Rests : ScriptCursor → List FirstCopy → Type 0
+  Rests u left = (j : ℕ) → slice_get own (u.made_count + j) ≡ slice_get left j
 
   -- what was made lies below the level
-  abbrev Behind : Cursor → Type 0
-  Behind u = (j : ℕ) (c : FirstCopy) → j < u.made → slice_get own j ≡ Some c → c.place < u.level
+  abbrev Behind : ScriptCursor → Type 0
+  Behind u = (j : ℕ) (c : FirstCopy) → j < u.made_count → slice_get own j ≡ Some c → c.place < u.level
 
-  head : (u : Cursor) (left : List FirstCopy) → Rests u left → slice_get own u.made ≡ slice_get left 0
-  head u left h = (let z : u.made + 0 ≡ u.made = omega arith in rw z at (h 0))
+  head : (u : ScriptCursor) (left : List FirstCopy) → Rests u left → slice_get own u.made_count ≡ slice_get left 0
+  head u left h = (let z : u.made_count + 0 ≡ u.made_count = omega arith in rw z at (h 0))
 
-  rests_on : (u v : Cursor) (c : FirstCopy) (left : List FirstCopy) → v.made ≡ suc u.made → Rests u (c ∷ left) → Rests v left
+  rests_on : (u v : ScriptCursor) (c : FirstCopy) (left : List FirstCopy) → v.made_count ≡ suc u.made_count → Rests u (c ∷ left) → Rests v left
   rests_on u v c left e h j = ap (slice_get own) (let z = e in omega arith) ∙ h (suc j)
 
-  behind_on : (u v : Cursor) (c : FirstCopy) → v.made ≡ suc u.made → v.level ≡ suc c.place → u.level ≤ c.place → slice_get own u.made ≡ Some c → Behind u → Behind v
+  behind_on : (u v : ScriptCursor) (c : FirstCopy) → v.made_count ≡ suc u.made_count → v.level ≡ suc c.place → u.level ≤ c.place → slice_get own u.made_count ≡ Some c → Behind u → Behind v
   behind_on u v c h g k l m = grind arith
 
   -- entries that fit are followed, whatever comes behind them
-  runs : (side : Side) (entry : ℕ) (u : Cursor) (xs rest : List Entry) (made left : List FirstCopy) (taken : List ℕ) (e : EndState)
+  runs : (side : Side) (entry : ℕ) (u : ScriptCursor) (xs rest : List Entry) (made left : List FirstCopy) (taken : List ℕ) (e : EndState)
       → Rests u (made ++ left) → Behind u → FitsFrom u xs made taken e
       → follow_from p side packets own peer entry u (xs ++ rest) ≡ follow_from p side packets own peer (counted entry xs) (reached u xs made taken e) rest
   unfolding follow_from
@@ -68,7 +68,7 @@ module _ (p : Parameters) (packets : ℕ) (own peer : List FirstCopy) where
       let c = f.ends.0 in
       let there : slice_get peer position ≡ Some c = sym (copy_of_position peer number position f.takes.1) ∙ f.ends.2 in
       let same : f.takes.2.0 ≡ c = (let x = f.takes.2.1 in let y = f.ends.2 in cc) in
-      let v : Cursor = record { level = slot; made = u.made; taken = suc position; state = f.ends.1 } in
+      let v : ScriptCursor = record { level = slot; made_count = u.made_count; passed = suc position; state = f.ends.1 } in
       rw (gone p packets own peer u v (Take slot number) (takes slot number position c f.ends.1 f.slots.0 f.slots.1 f.takes.1 there (rw same at f.takes.2.2) f.takes.0 f.ends.3))
       (runs side (suc entry) v xs rest made left taken e r (λ j d l k. let q = b j d l k in let z = f.slots.0 in omega arith)
       (record { makes = f.makes; slots = f.slots.2; takes = f.takes.3; ends = f.ends.4 }))
@@ -77,24 +77,24 @@ module _ (p : Parameters) (packets : ℕ) (own peer : List FirstCopy) where
       let same : place ≡ c.place = (let z = f.makes in cc) in
       let low : u.level ≤ c.place = (let z = f.slots.0 in omega arith) in
       let there = head u (c ∷ (made ++ left)) r in
-      let found = place_first own u.made c there (λ j d l k q. (let y = b j d l k in omega (arith, q, y, low))) in
-      let v : Cursor = record { level = suc place; made = suc u.made; taken = u.taken; state = f.ends.0 } in
+      let found = place_first own u.made_count c there (λ j d l k q. (let y = b j d l k in omega (arith, q, y, low))) in
+      let v : ScriptCursor = record { level = suc place; made_count = suc u.made_count; passed = u.passed; state = f.ends.0 } in
       rw (gone p packets own peer u v (Make place clock why) (makes place clock why c f.ends.0 f.slots.0 (rw same found) there (sym same) f.ends.1))
       (runs side (suc entry) v xs rest made left taken e (rests_on u v c (made ++ left) refl r) (behind_on u v c refl (ap suc same) low there b)
       (record { makes = (let z = f.makes in cc); slots = f.slots.1; takes = f.takes; ends = f.ends.2 }))
 
   -- ---- an entry that the code follows is one that fits
 
-  record Consed (u v : Cursor) (x : Entry) (left : List FirstCopy) : Type 0 where
+  record Consed (u v : ScriptCursor) (x : Entry) (left : List FirstCopy) : Type 0 where
     one : List FirstCopy
     others : List FirstCopy
     is : left ≡ one ++ others
     rests : Rests v others
-    within : u.made ≤ length own → v.made ≤ length own
+    within : u.made_count ≤ length own → v.made_count ≤ length own
     fits : (xs : List Entry) (made : List FirstCopy) (taken : List ℕ) (e : EndState) → FitsFrom v xs made taken e
         → (positions : List ℕ) × FitsFrom u (x ∷ xs) (one ++ made) positions e × (reached u (x ∷ xs) (one ++ made) positions e ≡ reached v xs made taken e)
 
-  consed : (u v : Cursor) (x : Entry) (left : List FirstCopy) → Goes p packets own peer u x v → Rests u left → Consed u v x left
+  consed : (u v : ScriptCursor) (x : Entry) (left : List FirstCopy) → Goes p packets own peer u x v → Rests u left → Consed u v x left
   consed u v x left (takes slot number position c after low high at g front up t) r =
       let named : copy_with peer number ≡ Some c = copy_of_position peer number position at ∙ g in
       record {
@@ -117,24 +117,24 @@ module _ (p : Parameters) (packets : ℕ) (own peer : List FirstCopy) where
         one = d ∷ [];
         others = left;
         is = refl;
-        rests = rests_on u (record { level = suc place; made = suc u.made; taken = u.taken; state = after }) d left refl r;
-        within = λ l. slice_get_within own u.made c g;
+        rests = rests_on u (record { level = suc place; made_count = suc u.made_count; passed = u.passed; state = after }) d left refl r;
+        within = λ l. slice_get_within own u.made_count c g;
         fits = λ xs made taken e f. (taken, record { makes = (λ i. here i ∷ f.makes i); slots = (low, f.slots); takes = f.takes; ends = (after, subst (λ (z : FirstCopy). Makes p u.state z.pdu.safety clock why after) is m, f.ends) }, refl);
       }
 
   -- ---- the tests on an entry are those of the code
 
-  abbrev entry_fault : Cursor → List FirstCopy → Entry → Option ℕ
-  entry_fault w left x = option_or (first_that_holds (entry_tests packets own peer w.level w.made w.taken x)) (end_fault p w.state left x)
+  abbrev entry_fault : ScriptCursor → List FirstCopy → Entry → Option ℕ
+  entry_fault w left x = option_or (first_that_holds (entry_tests packets own peer w.level w.made_count w.passed x)) (end_fault p w.state left x)
 
-  abbrev fault_of : Result Cursor ℕ → Option ℕ
+  abbrev fault_of : Result ScriptCursor ℕ → Option ℕ
   fault_of (Ok v) = None
   fault_of (Err n) = Some n
 
-  by_rules : (o : Option ℕ) (v : Cursor) → fault_of (unless o v) ≡ o
+  by_rules : (o : Option ℕ) (v : ScriptCursor) → fault_of (cursor_unless o v) ≡ o
   by_rules o v = grind arith
 
-  judged : (w : Cursor) (left : List FirstCopy) (x : Entry) → Rests w left → fault_of (next_cursor p packets own peer w x) ≡ entry_fault w left x
+  judged : (w : ScriptCursor) (left : List FirstCopy) (x : Entry) → Rests w left → fault_of (next_cursor p packets own peer w x) ≡ entry_fault w left x
   unfolding next_cursor
   judged w left (Take slot number) r = by (position_of_number peer number) refl
     where
@@ -149,63 +149,63 @@ module _ (p : Parameters) (packets : ℕ) (own peer : List FirstCopy) where
       by cs q None k = grind arith
       by [] q (Some i) k =
           let f = place_found own place i k in
-          let none : i ≡ w.made → ⊥ = λ at. absurd (let z = ap (slice_get own) at ∙ head w [] q in cc (f.1)) in
+          let none : i ≡ w.made_count → ⊥ = λ at. absurd (let z = ap (slice_get own) at ∙ head w [] q in cc (f.1)) in
           rw k (grind (arith, nat_tests))
       by (d ∷ cs) q (Some i) k =
-          let there : i ≡ w.made → slice_get own i ≡ Some d = λ at. ap (slice_get own) at ∙ head w (d ∷ cs) q in
+          let there : i ≡ w.made_count → slice_get own i ≡ Some d = λ at. ap (slice_get own) at ∙ head w (d ∷ cs) q in
           let z = by_rules (make_fault p w.state d.pdu.safety clock why) (made_there w place (after_make w.state d.pdu.safety clock why)) in
           rw k (grind (arith, nat_tests))
 
   -- the code refuses an entry by the first test that holds
-  refuses : (w : Cursor) (left : List FirstCopy) (x : Entry) (n : ℕ) → Rests w left → entry_fault w left x ≡ Some n → next_cursor p packets own peer w x ≡ Err n
+  refuses : (w : ScriptCursor) (left : List FirstCopy) (x : Entry) (n : ℕ) → Rests w left → entry_fault w left x ≡ Some n → next_cursor p packets own peer w x ≡ Err n
   refuses w left x n r h = (let z = judged w left x r ∙ h in grind arith)
 
   -- ---- what the code answers is the first fault
 
-  data FaultFrom (side : Side) (entry : ℕ) (u : Cursor) (xs : List Entry) (all : List FirstCopy) : Fault → Type 0 where
+  data FaultFrom (side : Side) (entry : ℕ) (u : ScriptCursor) (xs : List Entry) (all : List FirstCopy) : Fault → Type 0 where
     one_of : (front behind : List Entry) (x : Entry) (made left : List FirstCopy) (taken : List ℕ) (e : EndState) (number : ℕ)
         → xs ≡ front ++ x ∷ behind → all ≡ made ++ left → FitsFrom u front made taken e → entry_fault (reached u front made taken e) left x ≡ Some number
         → FaultFrom side entry u xs all (fault_of_end number (counted entry front) side)
     none_left : (made left : List FirstCopy) (c : FirstCopy) (taken : List ℕ) (e : EndState) → FitsFrom u xs made taken e → all ≡ made ++ c ∷ left
         → FaultFrom side entry u xs all (fault_of_end make_missing (counted entry xs) side)
 
-  here : (u : Cursor) → FitsFrom u [] [] [] u.state
+  here : (u : ScriptCursor) → FitsFrom u [] [] [] u.state
   here u = record { makes = refl; slots = tt; takes = tt; ends = refl }
 
-  fault_after : (side : Side) (entry : ℕ) (u v : Cursor) (x : Entry) (xs : List Entry) (left : List FirstCopy) (f : Fault) (z : Consed u v x left)
+  fault_after : (side : Side) (entry : ℕ) (u v : ScriptCursor) (x : Entry) (xs : List Entry) (left : List FirstCopy) (f : Fault) (z : Consed u v x left)
       → FaultFrom side (suc entry) v xs z.others f → FaultFrom side entry u (x ∷ xs) left f
   fault_after side entry u v x xs left f z (one_of front behind y made rest taken e number is parts fits says) =
       let w = z.fits front made taken e fits in
       one_of (x ∷ front) behind y (z.one ++ made) rest w.0 e number (ap (λ (l : List Entry). x ∷ l) is) (z.is ∙ rw (parts, append_assoc) refl) w.1
-      (subst (λ (q : Cursor). entry_fault q rest y ≡ Some number) (sym w.2) says)
+      (subst (λ (q : ScriptCursor). entry_fault q rest y ≡ Some number) (sym w.2) says)
   fault_after side entry u v x xs left f z (none_left made rest c taken e fits parts) =
       let w = z.fits xs made taken e fits in
       none_left (z.one ++ made) rest c w.0 e w.1 (z.is ∙ rw (parts, append_assoc) refl)
 
   -- an end that the script fits with, or its first fault
-  abbrev Answered : Side → ℕ → Cursor → List Entry → List FirstCopy → Result EndState Fault → Type 0
+  abbrev Answered : Side → ℕ → ScriptCursor → List Entry → List FirstCopy → Result EndState Fault → Type 0
   Answered side entry u xs left (Ok e) = (taken : List ℕ) × FitsFrom u xs left taken e
   Answered side entry u xs left (Err f) = FaultFrom side entry u xs left f
 
-  answered_on : (side : Side) (entry : ℕ) (u v : Cursor) (x : Entry) (xs : List Entry) (left : List FirstCopy) (z : Consed u v x left) (r : Result EndState Fault)
+  answered_on : (side : Side) (entry : ℕ) (u v : ScriptCursor) (x : Entry) (xs : List Entry) (left : List FirstCopy) (z : Consed u v x left) (r : Result EndState Fault)
       → Answered side (suc entry) v xs z.others r → Answered side entry u (x ∷ xs) left r
   answered_on side entry u v x xs left z r h1 = grind (arith, fault_after)
 
-  answered : (side : Side) (entry : ℕ) (u : Cursor) (xs : List Entry) (left : List FirstCopy) → Rests u left → u.made ≤ length own
+  answered : (side : Side) (entry : ℕ) (u : ScriptCursor) (xs : List Entry) (left : List FirstCopy) → Rests u left → u.made_count ≤ length own
       → Answered side entry u xs left (follow_from p side packets own peer entry u xs)
   unfolding follow_from
   answered side entry u [] [] r l =
-      let none : u.made < length own → ⊥ = λ q. absurd (let f = slice_get_some own u.made q in let z = head u [] r in cc (f.1)) in
-      let all : (u.made == length own) ≡ true = grind (arith, nat_tests) in
+      let none : u.made_count < length own → ⊥ = λ q. absurd (let f = slice_get_some own u.made_count q in let z = head u [] r in cc (f.1)) in
+      let all : (u.made_count == length own) ≡ true = grind (arith, nat_tests) in
       rw all ([], here u)
   answered side entry u [] (c ∷ left) r l =
-      let m = slice_get_within own u.made c (head u (c ∷ left) r) in
-      let more : (u.made == length own) ≡ false = grind (arith, nat_tests) in
+      let m = slice_get_within own u.made_count c (head u (c ∷ left) r) in
+      let more : (u.made_count == length own) ≡ false = grind (arith, nat_tests) in
       rw more (none_left [] left c [] u.state (here u) refl)
   answered side entry u (x ∷ xs) left r l = by (next_cursor p packets own peer u x) refl (λ v cs q m. answered side (suc entry) v xs cs q m)
     where
-      by : (o : Result Cursor ℕ) → next_cursor p packets own peer u x ≡ o
-          → ((v : Cursor) (cs : List FirstCopy) → Rests v cs → v.made ≤ length own → Answered side (suc entry) v xs cs (follow_from p side packets own peer (suc entry) v xs))
+      by : (o : Result ScriptCursor ℕ) → next_cursor p packets own peer u x ≡ o
+          → ((v : ScriptCursor) (cs : List FirstCopy) → Rests v cs → v.made_count ≤ length own → Answered side (suc entry) v xs cs (follow_from p side packets own peer (suc entry) v xs))
           → Answered side entry u (x ∷ xs) left (then_follow (λ v. follow_from p side packets own peer (suc entry) v xs) entry side o)
       by (Err n) k rest = one_of [] xs x [] left [] u.state n refl refl (here u) (sym (judged u left x r) ∙ ap fault_of k)
       by (Ok v) k rest =
@@ -215,15 +215,15 @@ module _ (p : Parameters) (packets : ℕ) (own peer : List FirstCopy) where
   -- ---- a whole script
 
   abbrev to_start : (side : Side) (made : List FirstCopy) (es : List Entry) (taken : List ℕ) (e : EndState) → FitsFrom (at_start (start_of p side)) es made taken e → Fits p side packets made peer es e
-  to_start side made es taken e f = record { makes = f.makes; slots = f.slots; taken = taken; takes = f.takes; ends = f.ends }
+  to_start side made es taken e f = record { makes = f.makes; slots = f.slots; positions = taken; takes = f.takes; ends = f.ends }
 
   -- a script whose beginning fits is followed through it
   from_start : (side : Side) (es rest : List Entry) (made left : List FirstCopy) (e : EndState) → own ≡ made ++ left → (f : Fits p side packets made peer es e)
       → follow p side packets own peer (es ++ rest)
-      ≡ follow_from p side packets own peer (suc (length es)) (record { level = level_after 0 es; made = length made; taken = position_after 0 f.taken; state = e }) rest
+      ≡ follow_from p side packets own peer (suc (length es)) (record { level = level_after 0 es; made_count = length made; passed = position_after 0 f.positions; state = e }) rest
   from_start side es rest made left e parts f =
       rw (sym (counted_is 1 es (suc (length es)) (omega arith)), sym (counted_is 0 made (length made) (omega arith)))
-      (runs side 1 (at_start (start_of p side)) es rest made left f.taken e (λ j. (let z : 0 + j ≡ j = omega arith in rw (z, parts) refl)) (λ j c l g. absurd (omega arith))
+      (runs side 1 (at_start (start_of p side)) es rest made left f.positions e (λ j. (let z : 0 + j ≡ j = omega arith in rw (z, parts) refl)) (λ j c l g. absurd (omega arith))
       (record { makes = f.makes; slots = f.slots; takes = f.takes; ends = f.ends }))
 
   -- a script that fits is followed
@@ -252,7 +252,7 @@ module _ (p : Parameters) (packets : ℕ) (own peer : List FirstCopy) where
   pub fault_is : (side : Side) (es : List Entry) (f : Fault) → FirstFault p side packets own peer es f → follow p side packets own peer es ≡ Err f
   unfolding follow_from
   fault_is side es f (at_entry front behind x made left e before number is parts says) =
-      let w : Cursor = record { level = level_after 0 front; made = length made; taken = position_after 0 before.taken; state = e } in
+      let w : ScriptCursor = record { level = level_after 0 front; made_count = length made; passed = position_after 0 before.positions; state = e } in
       rw (is, from_start side front (x ∷ behind) made left e parts before, refuses w left x number (λ j. (rw parts (get_past made left j))) says) refl
   fault_is side es f (after_last made left c e before parts) =
       let more : (length made == length own) ≡ false = (let y = ap length parts in let q = length-append made (c ∷ left) in grind (arith, nat_tests, y, q)) in

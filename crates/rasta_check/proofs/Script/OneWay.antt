@@ -1,7 +1,7 @@
 -- Scripts are followed in one way, and first copies are the packets with a new number.
 use Rattle.std.proofs.Common.{◌≡◌, ℕ, ◌<◌, List, [], ◌∷◌, ◌++◌, length, Some, slice_get, refl, arith}
-use Rattle.rasta_check.proofs.Prelude.{append-nil, Side, Packet, Parameters, RedundancyPdu, Entry, FirstCopy, Cursor, Advances, takes_next, makes_next, Leads, Spells}
-use Rattle.rasta_check.specs.Capture.Crossing.{IsCarried, IsKnown}
+use Rattle.rasta_check.proofs.Prelude.{append-nil, Side, Packet, Parameters, RedundancyPdu, Entry, FirstCopy, ScriptCursor, Advances, takes_next, makes_next, Leads, Spells}
+use Rattle.rasta_check.specs.Capture.SentLists.{IsCarried, IsKnown}
 use Rattle.rasta_check.proofs.Capture.FaultlessLists.{IsSent, ordered, read_once}
 use Rattle.rasta_check.proofs.Capture.Positions.{number_once}
 
@@ -20,7 +20,7 @@ new_is_first p xs s own h1 k a d h2 h3 h4 h5 = grind (arith, read_once, carried_
 
 module _ (p : Parameters) (n : ℕ) (packets : List Packet) (r : Side) (own peer : List FirstCopy) (sent : IsSent p packets r peer) (few : length peer < 4294967296) where
   -- an entry leads to one cursor
-  once : (u v w : Cursor) (x y : Entry) → x ≡ y → Advances p n own peer u x v → Advances p n own peer u y w → v ≡ w
+  once : (u v w : ScriptCursor) (x y : Entry) → x ≡ y → Advances p n own peer u x v → Advances p n own peer u y w → v ≡ w
   once u v w x y e (takes_next slot i c z a b g d f t) (takes_next slot' i' c' z' a' b' g' d' f' t') =
       let number : c.pdu.number ≡ c'.pdu.number = cc in
       let position = number_once peer (ordered sent) few i i' c c' g g' number in
@@ -29,13 +29,13 @@ module _ (p : Parameters) (n : ℕ) (packets : List Packet) (r : Side) (own peer
   once u v w x y e _ _ = absurd (cc)
 
   -- what leads to v, and the rest of a longer script
-  leads_rest : (u v w : Cursor) (es rest : List Entry) → Leads p n own peer u es v → Leads p n own peer u (es ++ rest) w → Leads p n own peer v rest w
+  leads_rest : (u v w : ScriptCursor) (es rest : List Entry) → Leads p n own peer u es v → Leads p n own peer u (es ++ rest) w → Leads p n own peer v rest w
   leads_rest u v w [] rest f g = rw f at g
   leads_rest u v w (x ∷ es) rest f g = leads_rest f.0 v w es rest f.2 (rw (once u g.0 f.0 x x refl g.1 f.1) at g.2)
 
-  pub stuck : (u v w : Cursor) (es rest : List Entry) (x : Entry) → Leads p n own peer u es v → ((z : Cursor) → Advances p n own peer v x z → ⊥) → Leads p n own peer u (es ++ x ∷ rest) w → ⊥
+  pub stuck : (u v w : ScriptCursor) (es rest : List Entry) (x : Entry) → Leads p n own peer u es v → ((z : ScriptCursor) → Advances p n own peer v x z → ⊥) → Leads p n own peer u (es ++ x ∷ rest) w → ⊥
   stuck u v w es rest x f h g = (let r = leads_rest u v w es (x ∷ rest) f g in h r.0 r.1)
 
   -- a script leads to one cursor
-  pub leads_once : (u v w : Cursor) (es : List Entry) → Leads p n own peer u es v → Leads p n own peer u es w → v ≡ w
+  pub leads_once : (u v w : ScriptCursor) (es : List Entry) → Leads p n own peer u es v → Leads p n own peer u es w → v ≡ w
   leads_once u v w es f g = leads_rest u v w es [] f (rw append-nil g)

@@ -2,7 +2,7 @@
 use Rattle.std.proofs.Common.{◌≡◌, ℕ, suc, ◌+◌, ◌-◌, ◌<◌, ◌≤◌, Bool, false, List, [], ◌∷◌, ◌++◌, length, Option, Some, None, slice_get, refl, ap, sym, ◌∙◌, arith, subst, ⊎_elim, length-append}
 use Rattle.rasta_check.proofs.Prelude.{append-nil, append_assoc, length_push, length-map, map-append, slice_get_within, Side, Client, Server, Packet, Parameters}
 use Rattle.rasta_check.proofs.Prelude.{AreParameters, SafetyPdu, RedundancyPdu, Entry, Take, Make, Owed, Why, Made, EndState, wrapped, Makes, Takes, start_of, FirstCopy, Station}
-use Rattle.rasta_check.proofs.Prelude.{World, Reaches, other_side, station_of, Cursor, Advances, takes_next, makes_next, Leads, at_start, Follows, first_that_holds, take_fault}
+use Rattle.rasta_check.proofs.Prelude.{World, Reaches, other_side, station_of, ScriptCursor, Advances, takes_next, makes_next, Leads, at_start, Follows, first_that_holds, take_fault}
 use Rattle.rasta_check.proofs.Prelude.{Spells, Move, Moves, makes, repeats, arrives, takes, waits, side_moves, begins, goes_on, first_station, pdus_of, pdus_made, get_push_cases}
 use Rattle.rasta_check.proofs.Prelude.{get_front, get_push, get_past, map_at, get_mapped}
 use Rattle.rasta_pcap.specs.Fault.{reply_owed, past_deadline}
@@ -16,7 +16,7 @@ use Rattle.rasta_check.proofs.Model.TakeRows.{take_leaves}
 use Rattle.rasta_check.proofs.Capture.FirstCopies.{Counts_from, sent_other, sent_copy, sent_first, sent_none, sent_once}
 
 -- one entry more
-pub leads_more : (p : Parameters) (n : ℕ) (own peer : List FirstCopy) (u v w : Cursor) (es : List Entry) (x : Entry) → Leads p n own peer u es v → Advances p n own peer v x w → Leads p n own peer u (es ++ x ∷ []) w
+pub leads_more : (p : Parameters) (n : ℕ) (own peer : List FirstCopy) (u v w : ScriptCursor) (es : List Entry) (x : Entry) → Leads p n own peer u es v → Advances p n own peer v x w → Leads p n own peer u (es ++ x ∷ []) w
 leads_more p n own peer u v w [] x f a = (w, rw f a, refl)
 leads_more p n own peer u v w (y ∷ es) x f a = (f.0, f.1, leads_more p n own peer f.0 v w es x f.2 a)
 
@@ -32,13 +32,13 @@ clocks_on m n (Take slot number ∷ es) more l h g = clocks_on m n es more l h g
 clocks_on m n (Make place clock why ∷ es) more l h g = ((let z = h.0 in omega arith), clocks_on m n es more l h.1 g)
 
 -- each entry raises one of the two marks
-pub leads_count : (p : Parameters) (n : ℕ) (own peer : List FirstCopy) (u v : Cursor) (es : List Entry) → Leads p n own peer u es v → length es + u.made + u.taken ≤ v.made + v.taken
-leads_count p n own peer u v [] f = (let a = ap (λ (z : Cursor). z.made) f in let b = ap (λ (z : Cursor). z.taken) f in omega arith)
+pub leads_count : (p : Parameters) (n : ℕ) (own peer : List FirstCopy) (u v : ScriptCursor) (es : List Entry) → Leads p n own peer u es v → length es + u.made_count + u.passed ≤ v.made_count + v.passed
+leads_count p n own peer u v [] f = (let a = ap (λ (z : ScriptCursor). z.made_count) f in let b = ap (λ (z : ScriptCursor). z.passed) f in omega arith)
 leads_count p n own peer u v (x ∷ es) (m, takes_next slot position c e a b g d f t, r) = (let z = leads_count p n own peer _ v es r in omega arith)
 leads_count p n own peer u v (x ∷ es) (m, makes_next c clock why e a g k, r) = (let z = leads_count p n own peer _ v es r in omega arith)
 
-pub taken_within : (p : Parameters) (n : ℕ) (own peer : List FirstCopy) (u v : Cursor) (es : List Entry) → Leads p n own peer u es v → u.taken ≤ length peer → v.taken ≤ length peer
-taken_within p n own peer u v [] f l = (let b = ap (λ (z : Cursor). z.taken) f in omega arith)
+pub taken_within : (p : Parameters) (n : ℕ) (own peer : List FirstCopy) (u v : ScriptCursor) (es : List Entry) → Leads p n own peer u es v → u.passed ≤ length peer → v.passed ≤ length peer
+taken_within p n own peer u v [] f l = (let b = ap (λ (z : ScriptCursor). z.passed) f in omega arith)
 taken_within p n own peer u v (x ∷ es) (m, takes_next slot position c e a b g d f t, r) l = taken_within p n own peer _ v es r (let z = slice_get_within peer position c g in omega arith)
 taken_within p n own peer u v (x ∷ es) (m, makes_next c clock why e a g k, r) l = taken_within p n own peer _ v es r l
 
@@ -66,10 +66,10 @@ StandIn xs ys = (i : ℕ) (c : FirstCopy) → slice_get xs i ≡ Some c → slic
 -- a script for it; it leads there too where more has crossed
 pub record Told (p : Parameters) (s : Side) (n : ℕ) (own peer : List FirstCopy) (e : EndState) (moment passed_mark : ℕ) : Type 0 where
   pub es : List Entry
-  pub at : Cursor
+  pub at : ScriptCursor
   pub leads : (n' : ℕ) (own' peer' : List FirstCopy) → n ≤ n' → StandIn own own' → StandIn peer peer' → Leads p n' own' peer' (at_start (start_of p s)) es at
-  pub made : at.made ≡ length own
-  pub mark : passed_mark ≡ base p + at.taken
+  pub made : at.made_count ≡ length own
+  pub mark : passed_mark ≡ base p + at.passed
   pub level : at.level ≤ n
   pub state : at.state ≡ e
   pub clock : e.clock ≤ moment
@@ -80,8 +80,8 @@ pub record Both (p : Parameters) (s r : Side) (xs : List Packet) (a b : Station)
   pub peer : List FirstCopy
   pub sends : Sends p s xs own a.state a.first_number
   pub their_sends : Sends p r xs peer b.state b.first_number
-  pub told : Told p s (length xs) own peer a.state a.clock a.taken
-  pub their_told : Told p r (length xs) peer own b.state b.clock b.taken
+  pub told : Told p s (length xs) own peer a.state a.clock a.mark
+  pub their_told : Told p r (length xs) peer own b.state b.clock b.mark
 
 pub sends_count : (p : Parameters) (s : Side) (xs : List Packet) (own : List FirstCopy) (e : EndState) (f : ℕ) → Sends p s xs own e f → length e.made ≡ base p + length own
 sends_count p s xs own e f h = (let a = simp (length-append, length-map) at (ap length h.same) in let g = start_made p.quiet s in omega arith)
@@ -131,9 +131,9 @@ module _ (p : Parameters) (s : Side) (xs : List Packet) (own peer : List FirstCo
       let made = made_more p e x clock why e' mk in
       record {
         es = t.es ++ Make (length xs) clock why ∷ [];
-        at = record { level = suc (length xs); made = suc t.at.made; taken = t.at.taken; state = e' };
+        at = record { level = suc (length xs); made_count = suc t.at.made_count; passed = t.at.passed; state = e' };
         leads = λ n own' peer' k mine theirs. leads_more p n own' peer' _ _ _ t.es _ (t.leads n own' peer' (omega arith) (λ i c g. mine i c (get_front own (copy ∷ []) i c g)) theirs)
-            (makes_next copy clock why e' t.level (mine t.at.made copy (rw t.made (get_push own copy))) (subst (λ (z : EndState). Makes p z x clock why e') (sym t.state) mk));
+            (makes_next copy clock why e' t.level (mine t.at.made_count copy (rw t.made (get_push own copy))) (subst (λ (z : EndState). Makes p z x clock why e') (sym t.state) mk));
         made = (let z = length_push own copy in omega (arith, t.made));
         mark = t.mark;
         level = omega arith;
@@ -153,7 +153,7 @@ took p s r xs own peer e e' f clock taken position their m tk above g hs t =
     let same : e'.clock ≡ e.clock = ap (λ (z : EndState). z.clock) tk.1 ∙ (take_leaves p e m.pdu).clock in
     record {
       es = t.es ++ Take (length xs) c.0.pdu.number ∷ [];
-      at = record { level = length xs; made = t.at.made; taken = suc i; state = e' };
+      at = record { level = length xs; made_count = t.at.made_count; passed = suc i; state = e' };
       leads = λ n own' peer' k mine theirs. leads_more p n own' peer' _ _ _ t.es _ (t.leads n own' peer' k mine theirs)
           (takes_next (length xs) i c.0 e' t.level k (theirs i c.0 c.1) (slice_get_within xs c.0.place fst.0 fst.1) (let z = t.mark in omega arith) (rw t.state (earlier p e e.clock clock t.clock tk.0), rw (t.state, c.2) tk.1));
       made = t.made;
@@ -184,21 +184,21 @@ abbrev pub Kept : Parameters → Side → Side → ℕ → List Packet → Stati
 Kept p s r n ys a b own peer = (g : Both p s r ys a b) × HadCrossed n g.own own × HadCrossed n g.peer peer
 
 -- where nothing crosses, both lists stay
-stay : (p : Parameters) (s r : Side) (xs : List Packet) (a a' b : Station) (g : Both p s r xs a b) → Sends p s xs g.own a'.state a'.first_number → Told p s (length xs) g.own g.peer a'.state a'.clock a'.taken
+stay : (p : Parameters) (s r : Side) (xs : List Packet) (a a' b : Station) (g : Both p s r xs a b) → Sends p s xs g.own a'.state a'.first_number → Told p s (length xs) g.own g.peer a'.state a'.clock a'.mark
     → Kept p s r (length xs) xs a' b g.own g.peer
 stay p s r xs a a' b g sends told = (record { own = g.own; peer = g.peer; sends = sends; their_sends = g.their_sends; told = told; their_told = g.their_told }, all_crossed _ g.own, all_crossed _ g.peer)
 
 both_kept : (p : Parameters) (s r : Side) (xs ys : List Packet) (a a' b : Station) → (s ≡ r → ⊥) → {move : Move} → Moves p b xs a move a' ys → (g : Both p s r xs a b) → Kept p s r (length xs) ys a' b g.own g.peer
 both_kept p s r xs ys a a' b apart (makes x why e' ch res chk bs mk sp rec) g =
-    let c : FirstCopy = copy p s xs g.own g.peer a.state e' a.first_number a.clock a.taken ch res chk bs x why mk sp g.sends g.told in
+    let c : FirstCopy = copy p s xs g.own g.peer a.state e' a.first_number a.clock a.mark ch res chk bs x why mk sp g.sends g.told in
     let k : Packet = record { channel = ch; side = a.state.side; payload = bs } in (
       record {
         own = g.own ++ c ∷ [];
         peer = g.peer;
-        sends = made_sends p s xs g.own g.peer a.state e' a.first_number a.clock a.taken ch res chk bs x why mk sp g.sends g.told;
+        sends = made_sends p s xs g.own g.peer a.state e' a.first_number a.clock a.mark ch res chk bs x why mk sp g.sends g.told;
         their_sends = sends_other p r xs k g.peer b.state b.first_number g.their_sends (λ z. apart (sym g.sends.side ∙ z));
-        told = made_told p s xs g.own g.peer a.state e' a.first_number a.clock a.taken ch res chk bs x why mk sp g.sends g.told;
-        their_told = told_wider p r (length xs) _ g.peer g.own (g.own ++ c ∷ []) b.state b.clock b.taken (let z = length_push xs k in omega arith) (λ i d h. get_front g.own (c ∷ []) i d h) g.their_told;
+        told = made_told p s xs g.own g.peer a.state e' a.first_number a.clock a.mark ch res chk bs x why mk sp g.sends g.told;
+        their_told = told_wider p r (length xs) _ g.peer g.own (g.own ++ c ∷ []) b.state b.clock b.mark (let z = length_push xs k in omega arith) (λ i d h. get_front g.own (c ∷ []) i d h) g.their_told;
       },
       but_last g.own c,
       all_crossed _ g.peer,
@@ -211,8 +211,8 @@ both_kept p s r xs ys a a' b apart (repeats place ch old at sd rec) g =
         peer = g.peer;
         sends = record { sent = sent_copy p xs k s g.own place old g.sends.sent at (sd ∙ g.sends.side) refl; same = g.sends.same; numbers = g.sends.numbers; side = g.sends.side };
         their_sends = sends_other p r xs k g.peer b.state b.first_number g.their_sends (λ z. apart (sym (sd ∙ g.sends.side) ∙ z));
-        told = told_wider p s (length xs) _ g.own g.peer g.peer a.state a.clock a.taken (omega arith) (λ i c h. h) g.told;
-        their_told = told_wider p r (length xs) _ g.peer g.own g.own b.state b.clock b.taken (omega arith) (λ i c h. h) g.their_told;
+        told = told_wider p s (length xs) _ g.own g.peer g.peer a.state a.clock a.mark (omega arith) (λ i c h. h) g.told;
+        their_told = told_wider p r (length xs) _ g.peer g.own g.own b.state b.clock b.mark (omega arith) (λ i c h. h) g.their_told;
       },
       all_crossed _ g.own,
       all_crossed _ g.peer,
@@ -223,7 +223,7 @@ both_kept p s r xs ys a a' b apart (takes q m e' c l at tk) g =
     let same : e'.made ≡ a.state.made = ap (λ (z : EndState). z.made) tk.1 ∙ left.made in
     stay p s r xs a a' b g
     (record { sent = g.sends.sent; same = ap pdus_made same ∙ g.sends.same; numbers = g.sends.numbers; side = ap (λ (z : EndState). z.side) tk.1 ∙ (left.side ∙ g.sends.side) })
-    (took p s r xs g.own g.peer a.state e' b.state a.clock a.taken q b.first_number m tk l at g.their_sends g.told)
+    (took p s r xs g.own g.peer a.state e' b.state a.clock a.mark q b.first_number m tk l at g.their_sends g.told)
 both_kept p s r xs ys a a' b apart (waits c l) g =
     let t = g.told in
     stay p s r xs a a' b g g.sends (record { es = t.es; at = t.at; leads = t.leads; made = t.made; mark = t.mark; level = t.level; state = t.state; clock = (let z = t.clock in omega arith); clocks = t.clocks })

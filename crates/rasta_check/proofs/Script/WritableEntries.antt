@@ -1,7 +1,7 @@
 -- Entries of a script that fits have numbers that a certificate can hold.
 use Rattle.std.proofs.Common.{◌≡◌, ℕ, ◌+◌, ◌<◌, ◌≤◌, ◌^◌, false, List, [], ◌∷◌, Option, Some, None, length, slice_get, refl, ap, ◌∙◌, arith}
 use Rattle.rasta_check.proofs.Prelude.{not, length-map, length_push, slice_get_within, bytes_eq, Side, Packet, Kind, Parameters, SafetyPdu, Entry, Phase, Owed, Why, Made, EndState}
-use Rattle.rasta_check.proofs.Prelude.{Makes, start_of, FirstCopy, Cursor, takes_next, makes_next, Leads, at_start, is_kind, MakeRow, content_of, contents, row_of, Data}
+use Rattle.rasta_check.proofs.Prelude.{Makes, start_of, FirstCopy, ScriptCursor, takes_next, makes_next, Leads, at_start, is_kind, MakeRow, content_of, contents, row_of, Data}
 use Rattle.std.proofs.lemmas.List.Sums.{count_by-le-length, length-filter}
 use Rattle.std.specs.Option.{option_map_or}
 use Rattle.rasta_end.specs.declared.why.Why.TheVariants.{Again}
@@ -42,19 +42,19 @@ most_clock = 18446744073709551615
 
 module _ (p : Parameters) (packets : List Packet) (side other : Side) (own peer : List FirstCopy) (sent : IsSent p packets side own) (theirs : IsSent p packets other peer)
     (few : length packets ≤ 16000000) (short : length own ≤ 1000000) where
-  entries_fit : (u v : Cursor) (es : List Entry) → length u.state.made ≡ base p + u.made → Leads p (length packets) own peer u es v → ClocksWithin most_clock es → AreEntries es
+  entries_fit : (u v : ScriptCursor) (es : List Entry) → length u.state.made ≡ base p + u.made_count → Leads p (length packets) own peer u es v → ClocksWithin most_clock es → AreEntries es
   entries_fit u v [] n f h = tt
   entries_fit u v (x ∷ es) n (_, takes_next slot position c after a b g d f t, r) h =
       let w = theirs.firsts position c g in
       ((omega arith, w.3.fits.number), entries_fit _ v es (ap (λ (z : EndState). length z.made) t.1 ∙ (ap length (take_leaves p u.state c.pdu.safety).made ∙ n)) r h)
   entries_fit u v (x ∷ es) n (_, makes_next c clock why after a g mk, r) h =
-      let w = sent.firsts u.made c g in
+      let w = sent.firsts u.made_count c g in
       let i = slice_get_within packets c.place w.0 w.1 in
-      let j = slice_get_within own u.made c g in
+      let j = slice_get_within own u.made_count c g in
       let m = made_more p u.state c.pdu.safety clock why after mk in
       let q = base_small p.quiet in
       let k = length_push u.state.made m.new in
       ((omega arith, omega (arith, h.0), reason_fits p u.state after c.pdu.safety clock why mk (omega arith)), entries_fit _ v es (ap length m.made ∙ (k ∙ omega arith)) r h.1)
 
-  pub script_fits : (v : Cursor) (es : List Entry) → Leads p (length packets) own peer (at_start (start_of p side)) es v → ClocksWithin most_clock es → AreEntries es
+  pub script_fits : (v : ScriptCursor) (es : List Entry) → Leads p (length packets) own peer (at_start (start_of p side)) es v → ClocksWithin most_clock es → AreEntries es
   script_fits v es f h = entries_fit (at_start (start_of p side)) v es (let z = start_made p.quiet side in omega arith) f h

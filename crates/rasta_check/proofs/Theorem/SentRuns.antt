@@ -3,7 +3,7 @@
 use Rattle.std.proofs.Common.{◌≡◌, ℕ, suc, ◌+◌, ◌<◌, ◌≤◌, Bool, true, false, List, [], ◌∷◌, ◌++◌, length, Some, slice_get, refl, ap, sym, ◌∙◌, arith}
 use Rattle.std.proofs.Math.Logic.{⊎_map}
 use Rattle.rasta_check.proofs.Prelude.{is_some, not, slice_get_within, ◌&&◌, ◌||◌, Side, Packet, Parameters, AreParameters, Phase, ConnectionRequest, is_kind, Made, EndState, is_closed}
-use Rattle.rasta_check.proofs.Prelude.{start_of, FirstCopy, World, station_of, end_of, other_side, Reaches, IsWithin, NamesOne, pdus_made, pdus_of, all_made, units_along, units_shown}
+use Rattle.rasta_check.proofs.Prelude.{start_of, FirstCopy, World, station_of, end_of, other_side, Reaches, KeepsLimit, NamesOne, pdus_made, pdus_of, all_made, units_along, units_shown}
 use Rattle.rasta_check.proofs.Prelude.{units_taken, TakenUnit, surely_taken, Appends, HandsUpUnits, units_handed, units_listed, slice_get_some}
 use Rattle.rasta_end.specs.State.{is_client}
 use Rattle.rasta_check.specs.Model.Theorem.{HasHandedUp, IsMade}
@@ -24,7 +24,7 @@ use Rattle.rasta_check.proofs.Script.ScriptsOfRuns.{Sends, sends_count, told_by,
 
 -- of the last world of a run, where these are the sent lists of a side and of its peer
 pub record Known (p : Parameters) (w : World) (side : Side) (own peer : List FirstCopy) : Type 0 where
-  pub within : IsWithin p w
+  pub within : KeepsLimit p w
   pub all : All (station_of w side) (station_of w (other_side side))
   pub few : length (end_of w side).made ≤ 1000001
   pub sends : Sends p side w.crossed own (end_of w side) (station_of w side).first_number
@@ -68,10 +68,10 @@ module _ (p : Parameters) (ws : List World) (w : World) (side : Side) (own peer 
       let g = told_of p ws w side own peer r mine theirs few few_theirs in
       let sends = rw g.1 at g.0.sends in
       let their_sends = rw g.2 at g.0.their_sends in
-      let within : IsWithin p w = grind (arith, made_count p side _ own e _ sends, made_count p (other_side side) _ peer f _ their_sends) in
+      let within : KeepsLimit p w = grind (arith, made_count p side _ own e _ sends, made_count p (other_side side) _ peer f _ their_sends) in
       let all = all_held p ws w side r within in
       let once = numbered_once e.made (few_made p w within side) all.mine.held.list.numbered in
-      let shown = rw sends.same at (necessary e f (station_of w side).taken (station_of w (other_side side)).taken all.mine.held all.theirs.held all.mine.values once
+      let shown = rw sends.same at (necessary e f (station_of w side).mark (station_of w (other_side side)).mark all.mine.held all.theirs.held all.mine.values once
       (pdus_made (start_of p (other_side side)).made) (pdus_of peer) their_sends.same (grind arith) all.theirs.shown) in
       record {
         within = within;
@@ -125,7 +125,7 @@ module _ (p : Parameters) (ws : List World) (w : World) (side : Side) (own peer 
       let g = b.theirs.kept j d there (let y = a.after in omega arith) in
       let m = made_at p (other_side side) next.crossed b.told.peer e0 _ j d b.told.their_sends g in
       let t = shows_most e (all_made p side own) (pdus_of peer) known.sends.same known.along (length e0.handed) m.0.pdu
-      (in_time_at e0 (end_of next side) f e (station_of w side).taken all.theirs.shown known.all.theirs.shown known.all.mine.held known.all.mine.values known.few
+      (in_time_at e0 (end_of next side) f e (station_of w side).mark all.theirs.shown known.all.theirs.shown known.all.mine.held known.all.mine.values known.few
       (b.grown (other_side side)) (b.grown side) (base p + j) m.0 m.1) in
       let h = ap length (((appending d.place v next a).ends (other_side side)).same crossing).positions in
       omega (arith, t, ap (units_shown (all_made p side own) (pdus_of peer)) m.2, h)
@@ -160,7 +160,7 @@ module _ (p : Parameters) (ws : List World) (w : World) (side : Side) (own peer 
       unit_handed p side y e own peer known.sends.same (hands_up_units y e known.all.mine.values up) j t (omega (arith, z, shown.more, low)) gt
 
 -- the sent list of a side in a run
-pub made_list : (p : Parameters) → AreParameters p → (ws : List World) (w : World) (side : Side) → Reaches p ws w → IsWithin p w → (sent : List FirstCopy) × IsMade p ws w side sent
+pub made_list : (p : Parameters) → AreParameters p → (ws : List World) (w : World) (side : Side) → Reaches p ws w → KeepsLimit p w → (sent : List FirstCopy) × IsMade p ws w side sent
 made_list p valid ws w side r within =
     let g = told_by p valid ws w side r in
     let few : length g.own ≤ 1000000 = omega (arith, made_count p side _ _ _ _ g.sends, within side) in

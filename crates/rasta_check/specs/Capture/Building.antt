@@ -1,5 +1,5 @@
 -- What a builder has stored.
-use Rattle.rasta_check.specs.Capture.Reading.{Crossing}
+use Rattle.rasta_check.specs.Capture.Crossing.{Crossing}
 use Rattle.rasta_check.specs.declared.store_builder.StoreBuilder.{StoreBuilder}
 
 abbrev pub crossed_in : StoreBuilder → Crossing

@@ -1,103 +1,44 @@
--- What crossed past the tap, and the list of PDUs that each side sent.
-use Rattle.std.specs.Prelude.{◌≡◌, ℕ, suc, ◌+◌, ◌-◌, ◌≤◌, ◌<◌, Bool, true, List, [], ◌∷◌, length, drop, Option, Some, None, Result, Ok, Err, slice_get, slice_index, filter_map, find, if◌then◌else◌, ◌==◌}
-use Rattle.std.specs.Int.{from_le_bytes, w32}
-use Rattle.std.specs.Option.{option_flatten}
-use Rattle.std.specs.Result.{result_ok}
-use Rattle.std.specs.Str.{bytes_eq}
-use Rattle.rasta_pcap.specs.declared.fault.Fault.{Fault}
+-- What crossed between two ends: the packets, and the list that each side sent of them.
+use Rattle.std.specs.Prelude.{◌≡◌, ℕ, ◌≤◌, List, [], length}
 use Rattle.rasta_pcap.specs.declared.fault.Side.{Side}
-use Rattle.rasta_pcap.specs.Fault.{copy_differs, number_gap}
-use Rattle.rasta_udp.specs.Frame.{Packet, packet_in}
+use Rattle.rasta_pcap.specs.declared.fault.Side.TheVariants.{Client, Server}
+use Rattle.rasta_udp.specs.Frame.{Packet}
 use Rattle.rasta_pdu.specs.Params.{Parameters}
-use Rattle.rasta_pdu.specs.Pdu.{RedundancyPdu, IsRedundancyPdu, redundancy_bytes, decode_of}
-use Rattle.rasta_end.specs.State.{wrapped}
+use Rattle.rasta_check.specs.Capture.SentLists.{CrossRecorded, FirstCopy, Sent}
+use Rattle.rasta_check.specs.Model.World.{most_sent}
+use Rattle.rasta_check.specs.Model.Theorem.{OfConnection, most_packets}
 
--- ---- the crossing list
+-- what crossed between ends of these parameters: the packets, and the sent list of each side
+pub record Crossing : Type 0 where
+  pub params : Parameters
+  pub packets : List Packet
+  pub client : List FirstCopy
+  pub server : List FirstCopy
 
--- the crossing list of a capture's records, up to the last of the window: the packets that those from its first on hold, in order
-abbrev pub crossing_list : Parameters → List (List ℕ) → List Packet
-crossing_list p records = filter_map (λ (frame : List ℕ). option_flatten (result_ok (packet_in p.channels frame))) (drop (p.first_record - 1) records)
+-- nothing crossed
+abbrev pub nothing_crossed : Parameters → Crossing
+nothing_crossed p = record { params = p; packets = []; client = []; server = [] }
 
--- a recorded channel
-abbrev pub IsRecorded : Parameters → ℕ → Type 0
-IsRecorded p channel = (1 ≤ channel) × (channel ≤ length p.channels)
+abbrev pub sent_by : Crossing → Side → List FirstCopy
+sent_by k Client = k.client
+sent_by k Server = k.server
 
--- packets cross on recorded channels
-abbrev pub CrossRecorded : Parameters → List Packet → Type 0
-CrossRecorded p packets = (place : ℕ) (packet : Packet) → slice_get packets place ≡ Some packet → IsRecorded p packet.channel
+-- each side sent its list of these packets without a fault, and all are within the limits
+pub record AreSent (p : Parameters) (packets : List Packet) (client server : List FirstCopy) : Type 0 where
+  pub client_sent : Sent p packets Client client
+  pub server_sent : Sent p packets Server server
+  pub few_packets : length packets ≤ most_packets
+  pub few_client : length client ≤ most_sent
+  pub few_server : length server ≤ most_sent
 
--- ---- the sent list of a side
+-- the packets crossed on the channels of a connection, and the sides sent these lists
+pub record IsCrossing (k : Crossing) : Type 0 where
+  pub valid : OfConnection k.params
+  pub recorded : CrossRecorded k.params k.packets
+  pub sent : AreSent k.params k.packets k.client k.server
 
--- these bytes, sent by this side, spell this PDU
-pub record Spells (p : Parameters) (side : Side) (pdu : RedundancyPdu) (bytes : List ℕ) : Type 0 where
-  pub fits : IsRedundancyPdu p pdu
-  pub same : bytes ≡ redundancy_bytes p side pdu
-
--- the number in the bytes of a redundancy number
-abbrev pub number_in_bytes : List ℕ → ℕ
-number_in_bytes bytes = from_le_bytes w32 (slice_index bytes 4 ∷ slice_index bytes 5 ∷ slice_index bytes 6 ∷ slice_index bytes 7 ∷ [])
-
--- the first packet of a redundancy number: its place among the packets, counted from 0, and its PDU
-pub record FirstCopy : Type 0 where
-  pub place : ℕ
-  pub pdu : RedundancyPdu
-
--- a member of a sent list is a packet of this side, whose bytes spell its PDU
-pub record IsCarried (p : Parameters) (packets : List Packet) (side : Side) (copy : FirstCopy) : Type 0 where
-  pub packet : Packet
-  pub there : slice_get packets copy.place ≡ Some packet
-  pub of_side : packet.side ≡ side
-  pub spelled : Spells p side copy.pdu packet.payload
-
--- a packet before this place, of this side, has this redundancy number
-pub record IsKnown (p : Parameters) (packets : List Packet) (side : Side) (place number : ℕ) : Type 0 where
-  pub earlier : FirstCopy
-  pub carried : IsCarried p packets side earlier
-  pub before : earlier.place < place
-  pub same_number : earlier.pdu.number ≡ number
-
--- the sent list of a side: in the order of the packets, those of this side whose number no earlier packet of that side has
-pub record IsSentList (p : Parameters) (packets : List Packet) (side : Side) (sent : List FirstCopy) : Type 0 where
-  pub carried : (i : ℕ) (copy : FirstCopy) → slice_get sent i ≡ Some copy → IsCarried p packets side copy
-  pub in_order : (i : ℕ) (copy next : FirstCopy) → slice_get sent i ≡ Some copy → slice_get sent (suc i) ≡ Some next → copy.place < next.place
-  pub first : (i : ℕ) (copy : FirstCopy) → slice_get sent i ≡ Some copy → IsKnown p packets side copy.place copy.pdu.number → ⊥
-  pub all : (place : ℕ) (packet : Packet) (pdu : RedundancyPdu) → slice_get packets place ≡ Some packet → packet.side ≡ side → Spells p side pdu packet.payload
-      → (IsKnown p packets side place pdu.number → ⊥) → (i : ℕ) × (copy : FirstCopy) × (slice_get sent i ≡ Some copy) × (copy.place ≡ place)
-
--- this side sent this list, and none of its packets has a fault: each spells the PDU of a member, which is its own or crossed before it, byte for byte; and
--- the numbers of the members rise by one modulo 2^32
-pub record Sent (p : Parameters) (packets : List Packet) (side : Side) (sent : List FirstCopy) : Type 0 where
-  pub list : IsSentList p packets side sent
-  pub copies : (place : ℕ) (packet : Packet) → slice_get packets place ≡ Some packet → packet.side ≡ side
-      → (i : ℕ) × (copy : FirstCopy) × (slice_get sent i ≡ Some copy) × (copy.place ≤ place) × Spells p side copy.pdu packet.payload
-  pub numbers : (i : ℕ) (start copy : FirstCopy) → slice_get sent 0 ≡ Some start → slice_get sent i ≡ Some copy → copy.pdu.number ≡ wrapped (start.pdu.number + i)
-
--- ---- the fault of the next packet
-
--- the first copy with this redundancy number
-abbrev pub copy_with : List FirstCopy → ℕ → Option FirstCopy
-copy_with sent number = find (λ (copy : FirstCopy). copy.pdu.number == number) sent
-
--- the number that follows those of a sent list; the first is free
-abbrev pub is_next_number : List FirstCopy → ℕ → Bool
-is_next_number [] number = true
-is_next_number (copy ∷ copies) number = number == wrapped (copy.pdu.number + length (copy ∷ copies))
-
--- the fault of a packet of a known number: it differs from the first copy
-abbrev pub repeat_fault : Parameters → Side → FirstCopy → List ℕ → Option ℕ
-repeat_fault p side copy bytes = if bytes_eq (redundancy_bytes p side copy.pdu) bytes then None else Some copy_differs
-
--- the fault of a packet that spells this PDU, by the first copy of its number
-abbrev pub number_fault : Parameters → Side → List FirstCopy → List ℕ → RedundancyPdu → Option FirstCopy → Option ℕ
-number_fault p side sent bytes pdu (Some copy) = repeat_fault p side copy bytes
-number_fault p side sent bytes pdu None = if is_next_number sent pdu.number then None else Some number_gap
-
--- the same by what its bytes spell
-abbrev pub read_fault : Parameters → Side → List FirstCopy → List ℕ → Result RedundancyPdu Fault → Option ℕ
-read_fault p side sent bytes (Err fault) = Some fault.number
-read_fault p side sent bytes (Ok pdu) = number_fault p side sent bytes pdu (copy_with sent pdu.number)
-
--- the fault of a packet after those of which this side sent this list: its bytes spell no PDU, or it differs from the first copy of
--- its number, or its number skips some
-abbrev pub packet_fault : Parameters → List FirstCopy → Packet → Option ℕ
-packet_fault p sent packet = read_fault p packet.side sent packet.payload (decode_of p packet.side packet.payload)
+-- these are the sent lists of so many packets
+abbrev pub AreSentLists : Parameters → ℕ → List FirstCopy → List FirstCopy → Type 0
+AreSentLists p packets client server =
+    (w : List Packet) × (length w ≡ packets)
+    × IsCrossing (record { params = p; packets = w; client = client; server = server })

@@ -3,7 +3,7 @@ use Rattle.std.specs.Prelude.{◌≡◌, ℕ, zero, suc, ◌+◌, ◌<◌, List,
 use Rattle.rasta_pdu.specs.declared.pdu.Pdu.{Pdu}
 use Rattle.rasta_pdu.specs.Pdu.{value_of}
 use Rattle.rasta_end.specs.State.{wrapped}
-use Rattle.rasta_check.specs.Capture.Crossing.{FirstCopy}
+use Rattle.rasta_check.specs.Capture.SentLists.{FirstCopy}
 
 -- a place and the PDU that was read there, as they are handed out
 abbrev pub copy_of : ℕ × Pdu → FirstCopy
@@ -25,8 +25,10 @@ position_of_place sent place = position (nat_eq place) (places_of sent)
 
 -- places rise, and numbers rise by one modulo 2^32
 pub record IsOrdered (sent : List FirstCopy) : Type 0 where
-  pub places : (i : ℕ) (copy next : FirstCopy) → slice_get sent i ≡ Some copy → slice_get sent (suc i) ≡ Some next → copy.place < next.place
-  pub numbers : (i : ℕ) (start copy : FirstCopy) → slice_get sent 0 ≡ Some start → slice_get sent i ≡ Some copy → copy.pdu.number ≡ wrapped (start.pdu.number + i)
+  pub places : (i : ℕ) (copy next : FirstCopy) → slice_get sent i ≡ Some copy → slice_get sent (suc i) ≡ Some next
+      → copy.place < next.place
+  pub numbers : (i : ℕ) (start copy : FirstCopy) → slice_get sent 0 ≡ Some start → slice_get sent i ≡ Some copy
+      → copy.pdu.number ≡ wrapped (start.pdu.number + i)
 
 -- ---- a table of places: at each place one more than the position that stands there, or 0
 

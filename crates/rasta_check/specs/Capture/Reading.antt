@@ -1,5 +1,6 @@
 -- What is read of a capture: the packets that crossed with what each side sent, or the first fault.
-use Rattle.std.specs.Prelude.{◌≡◌, ℕ, ◌≤◌, List, [], ◌∷◌, ◌++◌, length, Option, Some, None, Result, Ok, Err, Bool, ◌&&◌, nat_lt, nat_le, if◌then◌else◌}
+use Rattle.std.specs.Prelude.{ℕ, List, [], ◌∷◌, ◌++◌, length, Option, Some, None, Result, Ok, Err, Bool, ◌&&◌, nat_lt}
+use Rattle.std.specs.Prelude.{nat_le, if◌then◌else◌}
 use Rattle.rasta_pcap.specs.declared.fault.Fault.{Fault}
 use Rattle.rasta_pcap.specs.declared.fault.Side.{Side}
 use Rattle.rasta_pcap.specs.declared.fault.Side.TheVariants.{Client, Server}
@@ -8,43 +9,11 @@ use Rattle.rasta_pcap.specs.Capture.{Numbered, Reading, reading_of}
 use Rattle.rasta_udp.specs.Frame.{Packet, packet_in}
 use Rattle.rasta_pdu.specs.Params.{Parameters}
 use Rattle.rasta_pdu.specs.Pdu.{RedundancyPdu, decode_of}
-use Rattle.rasta_check.specs.Capture.Crossing.{CrossRecorded, FirstCopy, Sent, copy_with, packet_fault}
+use Rattle.rasta_check.specs.Capture.SentLists.{FirstCopy}
+use Rattle.rasta_check.specs.Capture.PacketFaults.{copy_with, packet_fault}
+use Rattle.rasta_check.specs.Capture.Crossing.{Crossing, nothing_crossed, sent_by}
 use Rattle.rasta_check.specs.Model.World.{most_sent}
-use Rattle.rasta_check.specs.Model.Theorem.{OfConnection, most_packets}
-
--- what crossed between ends of these parameters: the packets, and the sent list of each side
-pub record Crossing : Type 0 where
-  pub params : Parameters
-  pub packets : List Packet
-  pub client : List FirstCopy
-  pub server : List FirstCopy
-
--- nothing crossed
-abbrev pub nothing_crossed : Parameters → Crossing
-nothing_crossed p = record { params = p; packets = []; client = []; server = [] }
-
-abbrev pub sent_by : Crossing → Side → List FirstCopy
-sent_by k Client = k.client
-sent_by k Server = k.server
-
--- each side sent its list of these packets without a fault, and all are within the limits
-pub record AreSent (p : Parameters) (packets : List Packet) (client server : List FirstCopy) : Type 0 where
-  pub client_sent : Sent p packets Client client
-  pub server_sent : Sent p packets Server server
-  pub few_packets : length packets ≤ most_packets
-  pub few_client : length client ≤ most_sent
-  pub few_server : length server ≤ most_sent
-
--- the packets crossed on the channels of a connection, and the sides sent these lists
-pub record IsCrossing (k : Crossing) : Type 0 where
-  pub valid : OfConnection k.params
-  pub recorded : CrossRecorded k.params k.packets
-  pub sent : AreSent k.params k.packets k.client k.server
-
--- these are the sent lists of so many packets
-abbrev pub AreSentLists : Parameters → ℕ → List FirstCopy → List FirstCopy → Type 0
-AreSentLists p packets client server =
-    (w : List Packet) × (length w ≡ packets) × IsCrossing (record { params = p; packets = w; client = client; server = server })
+use Rattle.rasta_check.specs.Model.Theorem.{most_packets}
 
 -- ---- the next packet
 
@@ -59,22 +28,24 @@ after_read sent place (Err fault) = sent
 
 -- what the sender of a packet has sent after it
 abbrev pub sent_after : Crossing → Packet → List FirstCopy
-sent_after k packet = after_read (sent_by k packet.side) (length k.packets) (decode_of k.params packet.side packet.payload)
+sent_after k packet =
+    after_read (sent_by k packet.side) (length k.packets) (decode_of k.params packet.side packet.payload)
 
 -- one more packet, whose sender has sent this list after it
 abbrev pub crossing_with : Crossing → Packet → Side → List FirstCopy → Crossing
-crossing_with k packet Client sent = record { params = k.params; packets = k.packets ++ packet ∷ []; client = sent; server = k.server }
-crossing_with k packet Server sent = record { params = k.params; packets = k.packets ++ packet ∷ []; client = k.client; server = sent }
+crossing_with k packet Client sent = record k { packets = k.packets ++ packet ∷ []; client = sent }
+crossing_with k packet Server sent = record k { packets = k.packets ++ packet ∷ []; server = sent }
 
 abbrev pub with_packet : Crossing → Packet → Crossing
 with_packet k packet = crossing_with k packet packet.side (sent_after k packet)
 
-abbrev pub is_within : Crossing → Bool
-is_within k = nat_le (length k.packets) most_packets && (nat_le (length k.client) most_sent && nat_le (length k.server) most_sent)
+abbrev pub keeps_limits : Crossing → Bool
+keeps_limits k =
+    nat_le (length k.packets) most_packets && (nat_le (length k.client) most_sent && nat_le (length k.server) most_sent)
 
 -- at this record the limits are kept
 abbrev pub within_limits : ℕ → Crossing → Result Crossing Fault
-within_limits number k = if is_within k then Ok k else Err (fault_at too_many number)
+within_limits number k = if keeps_limits k then Ok k else Err (fault_at too_many number)
 
 -- a packet's fault speaks of its sender
 abbrev pub after_judged : Crossing → ℕ → Packet → Option ℕ → Result Crossing Fault
@@ -95,7 +66,8 @@ after_frame k number (Err fault) = Err (fault_at fault.number number)
 
 -- records before the window are not judged
 unfoldable pub after_record : Crossing → Numbered → Result Crossing Fault
-after_record k r = if nat_lt r.0 k.params.first_record then Ok k else after_frame k r.0 (packet_in k.params.channels r.1)
+after_record k r = if nat_lt r.0 k.params.first_record then Ok k
+    else after_frame k r.0 (packet_in k.params.channels r.1)
 
 -- ---- the packet in a record
 
@@ -113,14 +85,14 @@ abbrev pub at_end : Crossing → Option Fault → Result Crossing Fault
 at_end k None = Ok k
 at_end k (Some fault) = Err fault
 
-abbrev pub and_then : Result Crossing Fault → (Crossing → Result Crossing Fault) → Result Crossing Fault
-and_then (Ok k) next = next k
-and_then (Err fault) next = Err fault
+abbrev pub then_crossing : Result Crossing Fault → (Crossing → Result Crossing Fault) → Result Crossing Fault
+then_crossing (Ok k) next = next k
+then_crossing (Err fault) next = Err fault
 
 -- the crossing with these records one after the other, up to the first fault, and then the fault that ended the reading
 unfoldable pub after_records : Crossing → List Numbered → Option Fault → Result Crossing Fault
 after_records k [] fault = at_end k fault
-after_records k (r ∷ rs) fault = and_then (after_record k r) (λ (next : Crossing). after_records next rs fault)
+after_records k (r ∷ rs) fault = then_crossing (after_record k r) (λ (next : Crossing). after_records next rs fault)
 
 abbrev pub after_reading : Crossing → Reading → Result Crossing Fault
 after_reading k r = after_records k r.records r.fault

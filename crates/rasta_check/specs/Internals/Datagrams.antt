@@ -40,5 +40,5 @@ abbrev pub kept_in : List ℕ → Span → Kept
 kept_in bytes span = record { place = span.place; bytes = slice_range bytes span.start (span.start + span.len) }
 
 -- spans end within so many bytes
-abbrev pub AreWithin : ℕ → List Span → Type 0
-AreWithin size spans = (i : ℕ) (span : Span) → slice_get spans i ≡ Some span → span.start + span.len ≤ size
+abbrev pub LieIn : ℕ → List Span → Type 0
+LieIn size spans = (i : ℕ) (span : Span) → slice_get spans i ≡ Some span → span.start + span.len ≤ size

@@ -1,16 +1,18 @@
 -- How the list of a report is worked out, from an end and the sent lists of both sides.
-use Rattle.std.specs.Prelude.{ℕ, suc, ◌-◌, List, [], ◌∷◌, ◌++◌, length, replicate, Option, Some, None, slice_get, if◌then◌else◌}
+use Rattle.std.specs.Prelude.{ℕ, suc, ◌-◌, List, [], ◌∷◌, ◌++◌, length, replicate, Option, Some, None, slice_get}
+use Rattle.std.specs.Prelude.{if◌then◌else◌}
 use Rattle.rasta_pdu.specs.Pdu.{SafetyPdu, messages_in, is_kind}
 use Rattle.rasta_end.specs.State.{EndState, ahead_by, first_sn, kinds}
 use Rattle.rasta_end.specs.Units.{units_conveyed}
-use Rattle.rasta_check.specs.Capture.Crossing.{FirstCopy}
+use Rattle.rasta_check.specs.Capture.SentLists.{FirstCopy}
 use Rattle.rasta_check.specs.Model.Taken.{TakenUnit}
 use Rattle.rasta_check.specs.Verdict.Listed.{messages_taken, ListedMessage, numbered_from}
 use Rattle.rasta_pdu.specs.declared.kind.Kind.TheVariants.{ConnectionRequest, Data}
 
 -- the units that a PDU of the peer shows, by what this end made
 abbrev pub shown_by : EndState → SafetyPdu → ℕ
-shown_by e x = if is_kind ConnectionRequest x.kind then 0 else units_conveyed e.asks (kinds e.made) (ahead_by x.cs (first_sn e.made))
+shown_by e x = if is_kind ConnectionRequest x.kind then 0
+    else units_conveyed e.asks (kinds e.made) (ahead_by x.cs (first_sn e.made))
 
 -- the places of proofs, and this one for each further unit of so many
 abbrev pub with_proofs : List ℕ → ℕ → ℕ → List ℕ
@@ -33,7 +35,8 @@ with_unit c None units = []
 unfoldable pub proved_units : List ℕ → ℕ → List FirstCopy → List TakenUnit
 proved_units places unit [] = []
 proved_units places unit (c ∷ copies) =
-    if is_kind Data c.pdu.safety.kind then with_unit c (slice_get places unit) (proved_units places (suc unit) copies) else proved_units places unit copies
+    if is_kind Data c.pdu.safety.kind then with_unit c (slice_get places unit) (proved_units places (suc unit) copies)
+    else proved_units places unit copies
 
 -- the list of a report for the units that have these places of proofs
 abbrev pub listed_with : List ℕ → List FirstCopy → List ListedMessage

@@ -11,14 +11,14 @@ use Rattle.rasta_end.specs.State.{Made, EndState, wrapped}
 use Rattle.rasta_end.specs.MakeRule.{Makes}
 use Rattle.rasta_end.specs.TakeRule.{Takes}
 use Rattle.rasta_end.specs.Starts.{start_of}
-use Rattle.rasta_check.specs.Capture.Crossing.{Spells, IsRecorded}
+use Rattle.rasta_check.specs.Capture.SentLists.{Spells, IsRecorded}
 
 -- an end with its clock and what the network brought it. Positions are those of the peer
 pub record Station : Type 0 where
   pub state : EndState
   pub clock : ℕ
   pub arrived : List ℕ
-  pub taken : ℕ  -- one more than the position that was taken last
+  pub mark : ℕ  -- one more than the position that was taken last
   pub first_number : ℕ  -- the redundancy number of own position 0; it is free
 
 -- both ends, and the packets that crossed so far
@@ -36,13 +36,16 @@ pub data Move : Type 0 where
   waiting : (clock : ℕ) → Move
 
 -- a station does this while its peer stands still: from what it was to what it is, and what has crossed then
-pub data Moves (p : Parameters) (peer : Station) (crossed : List Packet) : Station → Move → Station → List Packet → Type 0 where
+pub data Moves (p : Parameters) (peer : Station) (crossed : List Packet) : Station → Move → Station → List Packet
+    → Type 0 where
   -- it makes a PDU, and a datagram that spells it crosses, under the station's next redundancy number
   makes : {a : Station} (x : SafetyPdu) (why : Why) (after : EndState) (channel reserve : ℕ) (check bytes : List ℕ)
       → Makes p a.state x a.clock why after
-      → Spells p a.state.side (record { reserve = reserve; number = wrapped (a.first_number + length a.state.made); safety = x; check_bytes = check }) bytes
+      → Spells p a.state.side (record { reserve = reserve; number = wrapped (a.first_number + length a.state.made);
+        safety = x; check_bytes = check }) bytes
       → IsRecorded p channel
-      → Moves p peer crossed a (making x why channel reserve check) (record a { state = after }) (crossed ++ record { channel = channel; side = a.state.side; payload = bytes } ∷ [])
+      → Moves p peer crossed a (making x why channel reserve check) (record a { state = after })
+        (crossed ++ record { channel = channel; side = a.state.side; payload = bytes } ∷ [])
   -- its packet at this place crosses again
   repeats : {a : Station} (place channel : ℕ) (old : Packet)
       → slice_get crossed place ≡ Some old → old.side ≡ a.state.side → IsRecorded p channel
@@ -53,13 +56,11 @@ pub data Moves (p : Parameters) (peer : Station) (crossed : List Packet) : Stati
       → Moves p peer crossed a (arriving position) (record a { arrived = position ∷ a.arrived }) crossed
   -- it takes the PDU at this position, which arrived, above the position that it took last
   takes : {a : Station} (position : ℕ) (m : Made) (after : EndState)
-      → Contains a.arrived position → a.taken ≤ position
-      → slice_get peer.state.made position ≡ Some m
+      → Contains a.arrived position → a.mark ≤ position → slice_get peer.state.made position ≡ Some m
       → Takes p a.state m.pdu a.clock after
-      → Moves p peer crossed a (taking position) (record a { state = after; taken = suc position }) crossed
+      → Moves p peer crossed a (taking position) (record a { state = after; mark = suc position }) crossed
   -- its clock rises, or stands still
-  waits : {a : Station} (clock : ℕ)
-      → a.clock ≤ clock
+  waits : {a : Station} (clock : ℕ) → a.clock ≤ clock
       → Moves p peer crossed a (waiting clock) (record a { clock = clock }) crossed
 
 -- the station of a side, and its end
@@ -77,11 +78,15 @@ moved w Server a crossed = record w { server = a; crossed = crossed }
 
 -- the station of one side moves, while that of the other stands still
 pub data Step (p : Parameters) : World → World → Type 0 where
-  side_moves : {w : World} {a : Station} {after : List Packet} {move : Move} (side : Side) → Moves p (station_of w (other_side side)) w.crossed (station_of w side) move a after → Step p w (moved w side a after)
+  side_moves : {w : World} {a : Station} {after : List Packet} {move : Move} (side : Side)
+      → Moves p (station_of w (other_side side)) w.crossed (station_of w side) move a after
+      → Step p w (moved w side a after)
 
 -- a station at the start: nothing has arrived, and from a quiet point the peer's quiet PDU was taken
 abbrev pub first_station : Parameters → Side → ℕ → Station
-first_station p side number = record { state = start_of p side; clock = (start_of p side).clock; arrived = []; taken = (start_of p side).base; first_number = number }
+first_station p side number =
+    record { state = start_of p side; clock = (start_of p side).clock; arrived = []; mark = (start_of p side).base;
+      first_number = number }
 
 -- the world at the start: nothing has crossed
 abbrev pub first_world : Parameters → ℕ → ℕ → World
@@ -97,5 +102,5 @@ abbrev pub most_sent : ℕ
 most_sent = 1000000
 
 -- no end has sent more than that
-abbrev pub IsWithin : Parameters → World → Type 0
-IsWithin p w = (side : Side) → length (end_of w side).made ≤ (start_of p side).base + most_sent
+abbrev pub KeepsLimit : Parameters → World → Type 0
+KeepsLimit p w = (side : Side) → length (end_of w side).made ≤ (start_of p side).base + most_sent

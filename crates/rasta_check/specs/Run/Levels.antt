@@ -1,12 +1,13 @@
 -- The lines that two scripts tell, level by level.
-use Rattle.std.specs.Prelude.{ℕ, zero, suc, List, [], ◌∷◌, ◌++◌, length, Option, Some, None, slice_get, filter_map, if◌then◌else◌, ◌==◌}
+use Rattle.std.specs.Prelude.{ℕ, zero, suc, List, [], ◌∷◌, ◌++◌, length, Option, Some, None, slice_get, filter_map}
+use Rattle.std.specs.Prelude.{if◌then◌else◌, ◌==◌}
 use Rattle.rasta_pcap.specs.declared.fault.Side.{Side}
 use Rattle.rasta_pcap.specs.declared.fault.Side.TheVariants.{Client, Server}
 use Rattle.rasta_udp.specs.Frame.{Packet}
 use Rattle.rasta_end.specs.declared.why.Why.{Why}
 use Rattle.rasta_cert.specs.declared.entry.Entry.{Entry}
 use Rattle.rasta_cert.specs.declared.entry.Entry.TheVariants.{Take, Make}
-use Rattle.rasta_check.specs.Capture.Crossing.{FirstCopy}
+use Rattle.rasta_check.specs.Capture.SentLists.{FirstCopy}
 use Rattle.rasta_check.specs.Capture.Lists.{position_of_place}
 use Rattle.rasta_check.specs.Run.Lines.{Line, took, made, copied, brought, waited, number_of}
 
@@ -47,25 +48,29 @@ make_line place side number m = record { level = place; side = side; what = made
 -- each take, right after its arrival
 abbrev pub each_take : ℕ → Side → List ℕ → List Line
 each_take level side [] = []
-each_take level side (number ∷ numbers) = brought_line level side number ∷ take_line level side number ∷ each_take level side numbers
+each_take level side (number ∷ numbers) =
+    brought_line level side number ∷ take_line level side number ∷ each_take level side numbers
 
 -- each make, right after the clock rises to the entry's
 abbrev pub each_make : ℕ → Side → ℕ → List (ℕ × Why) → List Line
 each_make place side number [] = []
-each_make place side number (m ∷ ms) = waited_line place side m.0 ∷ make_line place side number m ∷ each_make place side number ms
+each_make place side number (m ∷ ms) =
+    waited_line place side m.0 ∷ make_line place side number m ∷ each_make place side number ms
 
 -- the takes of a side with this slot
 abbrev pub takes_lines : ℕ → Side → List Entry → List Line
 takes_lines level side script = each_take level side (takes_at level script)
 
--- a packet at its place: a first copy, which has a position in the sent list of its side, is made, and any other is a copy
+-- a packet at its place: a first copy, which has a position in the sent list of its side, is made, and any other is a
+-- copy
 abbrev pub crossed_lines : ℕ → Side → ℕ → Option ℕ → List (ℕ × Why) → List Line
 crossed_lines place side number (Some position) makes = each_make place side number makes
 crossed_lines place side number None makes = record { level = place; side = side; what = copied number } ∷ []
 
 -- a packet of this side, by the side's sent list and script
 abbrev pub side_lines : ℕ → Side → ℕ → List FirstCopy → List Entry → List Line
-side_lines place side number own script = crossed_lines place side number (position_of_place own place) (makes_at place script)
+side_lines place side number own script =
+    crossed_lines place side number (position_of_place own place) (makes_at place script)
 
 abbrev pub by_side_lines : ℕ → ℕ → List FirstCopy → List FirstCopy → List Entry → List Entry → Side → List Line
 by_side_lines place number c s cs ss Client = side_lines place Client number c cs
@@ -79,12 +84,14 @@ packet_lines place c s cs ss (Some packet) = by_side_lines place (number_of pack
 -- after so many packets: what the client takes, what the server takes, and the next packet
 abbrev pub level_lines : List Packet → List FirstCopy → List FirstCopy → List Entry → List Entry → ℕ → List Line
 level_lines packets c s cs ss level =
-    takes_lines level Client cs ++ (takes_lines level Server ss ++ packet_lines level c s cs ss (slice_get packets level))
+    takes_lines level Client cs
+    ++ (takes_lines level Server ss ++ packet_lines level c s cs ss (slice_get packets level))
 
 -- so many levels, from this one on
 abbrev pub levels_lines : List Packet → List FirstCopy → List FirstCopy → List Entry → List Entry → ℕ → ℕ → List Line
 levels_lines packets c s cs ss level zero = []
-levels_lines packets c s cs ss level (suc left) = level_lines packets c s cs ss level ++ levels_lines packets c s cs ss (suc level) left
+levels_lines packets c s cs ss level (suc left) =
+    level_lines packets c s cs ss level ++ levels_lines packets c s cs ss (suc level) left
 
 -- every level, from none to all of the packets
 abbrev pub run_lines : List Packet → List FirstCopy → List FirstCopy → List Entry → List Entry → List Line

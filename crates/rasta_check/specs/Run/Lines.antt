@@ -4,8 +4,9 @@ use Rattle.rasta_pcap.specs.declared.fault.Side.{Side}
 use Rattle.rasta_udp.specs.Frame.{Packet}
 use Rattle.rasta_end.specs.declared.why.Why.{Why}
 use Rattle.rasta_end.specs.State.{wrapped}
-use Rattle.rasta_check.specs.Capture.Crossing.{number_in_bytes}
-use Rattle.rasta_check.specs.Model.World.{Station, World, Move, making, repeating, arriving, taking, waiting, station_of, other_side}
+use Rattle.rasta_check.specs.Capture.SentLists.{number_in_bytes}
+use Rattle.rasta_check.specs.Model.World.{Station, World, Move, making, repeating, arriving, taking, waiting}
+use Rattle.rasta_check.specs.Model.World.{station_of, other_side}
 use Rattle.rasta_check.specs.Run.Moves.{Happened}
 
 -- what a line tells, by redundancy numbers
@@ -33,13 +34,15 @@ copy_lines level side (Some old) = record { level = level; side = side; what = c
 -- the line of what a station does beside this peer, after these packets
 abbrev pub lines_of_move : Side → Station → Station → List Packet → Move → List Line
 lines_of_move side a peer crossed (making x why channel reserve check) =
-    record { level = length crossed; side = side; what = made (wrapped (a.first_number + length a.state.made)) a.clock why } ∷ []
+    record { level = length crossed; side = side;
+      what = made (wrapped (a.first_number + length a.state.made)) a.clock why } ∷ []
 lines_of_move side a peer crossed (repeating place channel) = copy_lines (length crossed) side (slice_get crossed place)
 lines_of_move side a peer crossed (arriving position) =
     record { level = length crossed; side = side; what = brought (wrapped (peer.first_number + position)) } ∷ []
 lines_of_move side a peer crossed (taking position) =
     record { level = length crossed; side = side; what = took (wrapped (peer.first_number + position)) } ∷ []
-lines_of_move side a peer crossed (waiting clock) = record { level = length crossed; side = side; what = waited clock } ∷ []
+lines_of_move side a peer crossed (waiting clock) =
+    record { level = length crossed; side = side; what = waited clock } ∷ []
 
 -- the line of what a side does in a world
 abbrev pub lines_in : World → Side → Move → List Line

@@ -14,7 +14,8 @@ pub record Happened : Type 0 where
 -- this happened, one move after the other, from a start, and led to this world
 pub data Runs (p : Parameters) : List Happened → World → Type 0 where
   starts : (m n : ℕ) → Runs p [] (first_world p m n)
-  does : {happened : List Happened} {w : World} {a : Station} {after : List Packet} (side : Side) (move : Move) → Runs p happened w
+  does : {happened : List Happened} {w : World} {a : Station} {after : List Packet} (side : Side) (move : Move)
+      → Runs p happened w
       → Moves p (station_of w (other_side side)) w.crossed (station_of w side) move a after
       → Runs p (happened ++ record { world = w; side = side; move = move } ∷ []) (moved w side a after)
 

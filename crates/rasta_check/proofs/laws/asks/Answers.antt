@@ -8,4 +8,4 @@ pub returns : goal.returns
 returns c p ws w side r within =
     let g = all_held p ws w side r within in
     let once = numbered_once (end_of w side).made (few_made p w within side) g.mine.held.list.numbered in
-    in_order (end_of w side) (end_of w (other_side side)) (station_of w side).taken (station_of w (other_side side)).taken g.mine.held g.theirs.held g.mine.values once
+    in_order (end_of w side) (end_of w (other_side side)) (station_of w side).mark (station_of w (other_side side)).mark g.mine.held g.theirs.held g.mine.values once

@@ -1,6 +1,6 @@
 use Rattle.std.proofs.Common.{arith, ℕ, ◌≡◌, ◌-◌, ◌∙◌, sym, ap, Ok, slice_range}
 use Rattle.rasta_pdu.specs.Lengths.{has_payload_length}
-use Rattle.rasta_pdu.specs.Pdu.{RedundancyPdu, body_at, layout_of, kind_of, decode_of, fields_of, value_of, code_at}
+use Rattle.rasta_pdu.specs.Pdu.{RedundancyPdu, body_at, layout_of, kind_of, decode_of, pdu_with_body, value_of, code_at}
 use Rattle.rasta_pdu.proofs.Spellings.{is_decoded, decode_of-Ok}
 use Rattle.rasta_pdu.proofs.read.read_decoded.Goals as goal
 
@@ -39,9 +39,9 @@ value : (c : goal.After-view) → decode_of c.args.params.now c.args.side c.args
 value c =
     let d = is_decoded c.args.params.now c.args.side c.args.bytes.now c.requires.decodes.0 c.requires.decodes.1 in
     d.value c.in-Some.kind (sym (c.of.ensures ∙ ap kind_of c.u16_at.ensures) ∙ c.in-Some.is)
-    ∙ ap (λ (n : ℕ). Ok (fields_of c.in-Some.kind (body_at (layout_of c.in-Some.kind) (slice_range c.args.bytes.now 36 (code_at c.args.params.now c.args.bytes.now))) n c.args.bytes.now))
+    ∙ ap (λ (n : ℕ). Ok (pdu_with_body c.in-Some.kind (body_at (layout_of c.in-Some.kind) (slice_range c.args.bytes.now 36 (code_at c.args.params.now c.args.bytes.now))) n c.args.bytes.now))
     (sym c.codes_at-code_at.ensures.check)
-    ∙ ap (λ (n : ℕ). Ok (fields_of c.in-Some.kind (body_at (layout_of c.in-Some.kind) (slice_range c.args.bytes.now 36 n)) c.codes_at-code_at.result.1 c.args.bytes.now))
+    ∙ ap (λ (n : ℕ). Ok (pdu_with_body c.in-Some.kind (body_at (layout_of c.in-Some.kind) (slice_range c.args.bytes.now 36 n)) c.codes_at-code_at.result.1 c.args.bytes.now))
     (sym c.codes_at-code_at.ensures.code)
     ∙ ap (λ (r : RedundancyPdu). Ok r) (sym c.view.ensures.value)
 

@@ -1,7 +1,7 @@
 use Rattle.std.proofs.Common.{◌≡◌, ℕ, List, Err, subst}
 use Rattle.rasta_pdu.specs.Params.{Parameters}
 use Rattle.rasta_cert.specs.Certificate.{IsCertificate}
-use Rattle.rasta_check.specs.Capture.Crossing.{FirstCopy}
+use Rattle.rasta_check.specs.Capture.SentLists.{FirstCopy}
 use Rattle.rasta_check.specs.Verdict.Report.{BothFit}
 use Rattle.rasta_build.specs.Completeness.{IsComplete}
 use Rattle.rasta_verdict.proofs.Judging.{judged_claims, refusal_claims, refusal_of}

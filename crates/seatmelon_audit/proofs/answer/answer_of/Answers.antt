@@ -1,6 +1,6 @@
 use Rattle.std.proofs.Common.{List, subst}
 use Rattle.rasta_check.specs.Capture.Building.{crossed_in}
-use Rattle.rasta_check.specs.Capture.Reading.{Crossing}
+use Rattle.rasta_check.specs.Capture.Crossing.{Crossing}
 use Rattle.seatmelon_audit.specs.Answers.{IsAnswerOn}
 use Rattle.seatmelon_audit.specs.declared.line.Stamp.{Stamp}
 use Rattle.seatmelon_audit.proofs.Answering.{read_answer}

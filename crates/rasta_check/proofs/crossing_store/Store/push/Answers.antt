@@ -1,7 +1,7 @@
 use Rattle.std.proofs.Common.{◌≡◌, ℕ, [], ◌∷◌, ◌++◌, length, ap, sym, ◌∙◌, subst, arith}
 use Rattle.rasta_check.proofs.Prelude.{packet_of, StoredPacket, Crossing, IsCrossing, with_packet, IsStore, crossing_by}
 use Rattle.rasta_check.specs.declared.crossing_store.Store.TheInside.{Inside}
-use Rattle.rasta_check.specs.Internals.Stored.{IsJudged}
+use Rattle.rasta_check.specs.Internals.Stored.{HasPosition}
 use Rattle.rasta_check.proofs.Internals.StoreGrowth.{grown_copy, grown_new}
 use Rattle.rasta_check.proofs.crossing_store.Store.push.Goals as goal
 use Rattle.rasta_check.proofs.crossing_store.Store.push.Goals.{in-Some, in-None+in_ok-push-in-None}
@@ -13,20 +13,20 @@ both c =
     let old = c.self.inside in
     let a = packet_of c.args.found.now in
     let crossing = subst (λ (k : Crossing). IsCrossing (with_packet k a)) (sym c.self.view_is) c.requires.crossing in
-    let judged = subst (λ (k : Crossing). IsJudged k a c.args.known) (sym c.self.view_is) c.requires.judged in
+    let judged = subst (λ (k : Crossing). HasPosition k a c.args.known) (sym c.self.view_is) c.requires.judged in
     let kept : c.try_reserve.new.self.items ≡ old.packets.items = c.in_ok-try_reserve.ensures.items in
     let stored : ℕ → StoredPacket = λ (n : ℕ). record { position = n; channel = a.channel; side = a.side } in
     let after = ap (λ (k : Crossing). with_packet k a) c.self.view_is in
     elim c.match-known.branch [
       | in-Some w ↦
           let all = c.push_reserved.ensures.items ∙ (λ i. (w.self-inside-is i).packets.items ++ stored (w.position-is i) ∷ []) ∙ (λ i. kept i ++ stored w.in-Some.position ∷ []) in
-          let r = grown_copy old.params old.datagrams old.packets.items c.self.invariant a crossing w.in-Some.position _ (subst (IsJudged _ a) w.in-Some.is judged) all in
+          let r = grown_copy old.params old.datagrams old.packets.items c.self.invariant a crossing w.in-Some.position _ (subst (HasPosition _ a) w.in-Some.is judged) all in
           (_, w.self-inside-is, r.0, r.1 ∙ after)
       | in-None+in_ok-push-in-None w ↦
           let all = c.push_reserved.ensures.items ∙ (λ i. (w.self-inside-is i).packets.items ++ stored (w.position-is i) ∷ []) ∙ (λ i. kept i ++ stored w.len-position.result ∷ []) in
           let place : w.len-place.result ≡ length old.packets.items = (let q = w.len-place.ensures in let l = ap length kept in omega arith) in
           let r = grown_new old.params old.datagrams old.packets.items c.self.invariant a crossing w.len-position.result w.len-place.result _ _ place w.len-position.ensures
-          (subst (IsJudged _ a) w.in-None.is judged) w.in_ok-push-in-None.ensures.ok all in
+          (subst (HasPosition _ a) w.in-None.is judged) w.in_ok-push-in-None.ensures.ok all in
           (_, w.self-inside-is, r.0, r.1 ∙ after)
     ]
 

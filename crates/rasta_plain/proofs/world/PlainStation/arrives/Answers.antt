@@ -24,9 +24,9 @@ returns-clause-answer c = λ xs.
     let more : c.insert.new.self.items ≡ c.args.position ∷ s.arrived.items = search rules in
     let found = c.in-Some.ensures.1 in
     subst (λ items. Answers c.args.self.now.params c.args.peer.now.station xs c.args.self.now.station (Arrive c.args.position) true
-    (record { state = s.end.state; clock = s.clock; arrived = items; taken = s.taken; first_number = s.first_number }) xs) (sym more)
+    (record { state = s.end.state; clock = s.clock; arrived = items; mark = s.mark; first_number = s.first_number }) xs) (sym more)
     (subst (λ (v : JudgedStation). Answers v.params c.args.peer.now.station xs v.station (Arrive c.args.position) true
-    (record { state = s.end.state; clock = s.clock; arrived = c.args.position ∷ s.arrived.items; taken = s.taken; first_number = s.first_number }) xs) c.self.view_is
+    (record { state = s.end.state; clock = s.clock; arrived = c.args.position ∷ s.arrived.items; mark = s.mark; first_number = s.first_number }) xs) c.self.view_is
     (arrive_made s.params c.args.peer.now.station _ c.args.position c.in-Some.ensures.0 found.0 found.1 xs))
 
 pub returns-in_default-clause-answer : goal.returns-in_default-clause-answer

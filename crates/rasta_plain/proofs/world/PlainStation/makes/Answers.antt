@@ -1,7 +1,7 @@
 use Rattle.std.proofs.Common.{rules, ◌≡◌, ◌++◌, ◌∷◌, [], map, true}
 use Rattle.rasta_udp.specs.Frame.{packet_of}
 use Rattle.std.specs.Option.{is_some}
-use Rattle.rasta_check.specs.Capture.Crossing.{IsRecorded}
+use Rattle.rasta_check.specs.Capture.SentLists.{IsRecorded}
 use Rattle.rasta_plain.proofs.Moving.{make_refused, kept_make, made, not_made}
 use Rattle.rasta_pdu.specs.Pdu.{value_of}
 use Rattle.rasta_plain.proofs.world.PlainStation.makes.Goals as goal

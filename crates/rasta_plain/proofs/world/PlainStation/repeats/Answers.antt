@@ -1,7 +1,7 @@
 use Rattle.std.proofs.Common.{rules, ◌≡◌, ◌∙◌, List, ◌++◌, ◌∷◌, [], map, slice_get, sym, ap}
 use Rattle.rasta_udp.specs.declared.channel.Datagram.{Datagram}
 use Rattle.rasta_udp.specs.Frame.{packet_of}
-use Rattle.rasta_check.specs.Capture.Crossing.{IsRecorded}
+use Rattle.rasta_check.specs.Capture.SentLists.{IsRecorded}
 use Rattle.rasta_plain.proofs.Moving.{repeat_refused, repeated}
 use Rattle.rasta_plain.proofs.world.PlainStation.repeats.Goals as goal
 

@@ -9,8 +9,8 @@ returns-in_default-clause-answer c = take_refused c.args.self.now.params c.args.
 
 pub invariant_of-self-2 : goal.invariant_of-self-2
 invariant_of-self-2 c =
-    let taken = ap (λ (v : JudgedStation). v.station.taken) c.self.view_is in
-    let above : c.self.inside.taken ≤ c.args.position = omega (arith, taken, c.in-Some.ensures.1) in
+    let taken = ap (λ (v : JudgedStation). v.station.mark) c.self.view_is in
+    let above : c.self.inside.mark ≤ c.args.position = omega (arith, taken, c.in-Some.ensures.1) in
     kept_take c.self.inside c.take.new.self (value_of c.in-Some.pdu).safety c.args.position (c.from.result + 1) c.self.invariant c.in_default-take.ensures.ok.1 (omega (arith, c.from.ensures)) above
 
 pub returns-clause-answer : goal.returns-clause-answer

@@ -10,6 +10,6 @@ returns-then-clock-self-clause-answer c = λ b. wait_refused c.args.self.now.par
 
 pub returns-clause-answer : goal.returns-clause-answer
 returns-clause-answer c = λ b xs.
-    let new : Station = record { state = c.self.inside.end.state; clock = c.args.clock; arrived = c.self.inside.arrived.items; taken = c.self.inside.taken; first_number = c.self.inside.first_number } in
+    let new : Station = record { state = c.self.inside.end.state; clock = c.args.clock; arrived = c.self.inside.arrived.items; mark = c.self.inside.mark; first_number = c.self.inside.first_number } in
     subst (λ (v : JudgedStation). Answers v.params b xs v.station (Wait c.args.clock) true new xs) c.self.view_is
     (wait_made c.self.inside.params b _ c.args.clock (search rules) xs)
