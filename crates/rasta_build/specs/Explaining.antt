@@ -42,7 +42,7 @@ abbrev pub take_step : ℕ → ℕ → RedundancyPdu → Built → Option Built
 take_step slot position x b =
     if nat_lt position b.next_take then None
     else built_unless (take_fault b.end.params b.end.state b.end.state.clock)
-      (taken_by (take_row b.end.params b.end.state x.safety) slot position x b)
+    (taken_by (take_row b.end.params b.end.state x.safety) slot position x b)
 
 -- ---- acceptance
 
@@ -86,8 +86,8 @@ abbrev pub catch_up : List FirstCopy → ℕ → ℕ → Built → Option Built
 catch_up sent slot bound b =
     if bound == b.end.state.accepted then Some b
     else accept_range sent slot bound b
-      (first_acceptable (is_retr_req b.end.state.phase) b.peer.quiet_sn sent b.end.state.accepted
-        (bound - b.end.state.accepted))
+    (first_acceptable (is_retr_req b.end.state.phase) b.peer.quiet_sn sent b.end.state.accepted
+    (bound - b.end.state.accepted))
 
 -- the end accepts through the position that a CS names: it has accepted no more, and the PDU there has crossed
 abbrev pub accept_through : List FirstCopy → ℕ → Built → Option ℕ → Option Built

@@ -41,8 +41,14 @@ sn_before sn = (sn + 4294967295) % 2 ^ 32
 -- are those of the other quiet PDU
 abbrev pub quiet_pdu : QuietEnd → QuietEnd → SafetyPdu
 quiet_pdu own other =
-    record { kind = Heartbeat; sn = sn_before own.next_sn; cs = sn_before other.next_sn; ts = wrapped own.clock;
-      cts = wrapped other.clock; body = Empty }
+    record {
+      kind = Heartbeat;
+      sn = sn_before own.next_sn;
+      cs = sn_before other.next_sn;
+      ts = wrapped own.clock;
+      cts = wrapped other.clock;
+      body = Empty;
+    }
 
 -- an end at the quiet point: connected, with its quiet PDU made and confirmed and that of its peer accepted
 abbrev pub quiet_end : Side → QuietEnd → QuietEnd → EndState

@@ -109,7 +109,7 @@ resends unit (suc count) = OweResend unit ∷ resends (suc unit) count
 abbrev pub burst : EndState → ℕ → List Owed
 burst e position =
     OweRetransmissionResponse ∷ resends (units_conveyed e.asks (kinds e.made) position)
-      (e.offered - units_conveyed e.asks (kinds e.made) position)
+    (e.offered - units_conveyed e.asks (kinds e.made) position)
 
 -- answers a request that confirms this own position
 abbrev pub answer_ask : ℕ → EndState → EndState

@@ -33,8 +33,10 @@ responses_after n _ = n
 
 abbrev pub convey : List ℕ → Conveyed → Kind → Conveyed
 convey asks c kind =
-    record { units = c.units ++ units_after asks c.units c.responses kind ∷ [];
-      responses = responses_after c.responses kind }
+    record {
+      units = c.units ++ units_after asks c.units c.responses kind ∷ [];
+      responses = responses_after c.responses kind;
+    }
 
 abbrev pub conveyed : List ℕ → List Kind → Conveyed
 conveyed asks kinds = fold (convey asks) (record { units = []; responses = 0 }) kinds

@@ -83,7 +83,7 @@ RefusesHeader f old new = ReadsSo (λ file. opening file ≡ Err f) old new
 abbrev pub ReadsRecord : Endianness → ℕ → Numbered → Option (List ℕ) → Option (List ℕ) → Type 0
 ReadsRecord order count r old new = ReadsJust
     (λ rest after. (next (cursor_at order rest count) ≡ Ok (Some r))
-        × (cursor_after (cursor_at order rest count) ≡ cursor_at order after r.0))
+    × (cursor_after (cursor_at order rest count) ≡ cursor_at order after r.0))
     old new
 
 -- nothing was read, since the file ends here

@@ -230,7 +230,7 @@ body_in Nothing payload = if length payload == 0 then Some Empty else None
 abbrev pub has_code : Parameters → List ℕ → Bool
 has_code p bytes =
     bytes_eq (code_over p (slice_range bytes 8 (code_at p bytes)))
-      (slice_range bytes (code_at p bytes) (check_at p bytes))
+    (slice_range bytes (code_at p bytes) (check_at p bytes))
 
 -- receiver and sender are the recorded ones
 abbrev pub has_ids : Parameters → Side → List ℕ → Bool

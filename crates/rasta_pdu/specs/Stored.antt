@@ -59,7 +59,7 @@ stored p = record {
 pub stored-parameters_of : (i : Inside) → AreStored i → stored (parameters_of i) ≡ i
 stored-parameters_of i are =
     ap
-      (λ (cs : List Channel).
-        let j : Inside = record i { channels = cs; channel_count = length (take i.channel_count i.channels) } in j)
-      are.places
+    (λ (cs : List Channel).
+    let j : Inside = record i { channels = cs; channel_count = length (take i.channel_count i.channels) } in j)
+    are.places
     ∙ ap (λ (n : ℕ). let j : Inside = record i { channel_count = n } in j) are.count

@@ -28,7 +28,7 @@ data_front place q = words_before (front_words place q) (words_before (codes "da
 abbrev pub data_line : ℕ → ShownPacket → List ℕ
 data_line place q = words_before (front_words place q)
     (words_before (codes "data" ∷ messages_text (messages_in q.pdu.safety.body)
-        ∷ []) (codes_line q.code q.pdu.check_bytes))
+    ∷ []) (codes_line q.code q.pdu.check_bytes))
 
 -- what a record is
 abbrev pub sight_in : Seen → Sight

@@ -31,8 +31,8 @@ placed_of m = record { data_place = m.data; message = m.bytes.now }
 abbrev pub taken_of : Message → Option ListedMessage
 taken_of m =
     option_map
-      (λ (proof : ℕ). record { number = m.number; data_place = m.data; proof_place = proof; message = m.bytes.now })
-      m.proof
+    (λ (proof : ℕ). record { number = m.number; data_place = m.data; proof_place = proof; message = m.bytes.now })
+    m.proof
 
 -- all that was sent is told, in order, and what is listed is told as surely taken, and nothing else
 pub record AreMessages (sent : List FirstCopy) (listed : List ListedMessage) (messages : List Message) : Type 0 where

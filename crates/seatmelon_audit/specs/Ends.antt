@@ -28,7 +28,7 @@ crossed_to_end p records fault =
 abbrev pub EndsBy : Line → Line → Fault → Type 0
 EndsBy old new fault = (records : List Captured) → IsFaultAfter records fault → IsLine records old
     → IsStanding new.standing (crossed_to_end old.params records (Some fault)) records old.params
-      (crossed_in new.builder) new.packets.items
+    (crossed_in new.builder) new.packets.items
 
 -- ---- all connections
 
@@ -36,7 +36,7 @@ EndsBy old new fault = (records : List Captured) → IsFaultAfter records fault 
 abbrev pub AreEnded : List Captured → Fault → List Line → Type 0
 AreEnded records fault lines = (i : ℕ) (d : Line) → i < length lines → (let l = slice_index_or lines i d in
     IsStanding l.standing (crossed_to_end l.params records (Some fault)) records l.params
-      (crossed_in l.builder) l.packets.items)
+    (crossed_in l.builder) l.packets.items)
 
 -- what stood as the records say stands as the records and the fault say
 abbrev pub AllEnd : List Line → List Line → Fault → Type 0

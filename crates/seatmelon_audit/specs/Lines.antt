@@ -30,7 +30,7 @@ pub record IsLine (records : List Captured) (l : Line) : Type 0 where
 abbrev pub IsJudged : Line → Line → Numbered → Option CaptureTime → Type 0
 IsJudged old new r time =
     IsJudgedSo new.standing old.params (crossed_in old.builder) (crossed_in new.builder)
-      old.packets.items new.packets.items r time
+    old.packets.items new.packets.items r time
 
 -- what was so of the records before the next one, which was captured at this time, is so of it too
 abbrev pub TakesIn : Line → Line → Numbered → Option CaptureTime → Type 0

@@ -116,7 +116,7 @@ abbrev pub full_turn : Order → Option Interface → List ℕ → Result Turn R
 full_turn order None block = Err reasons.Interface
 full_turn order (Some i) block =
     packet_turn i (moment_at i (stamp_in order block)) (field order 4 24 block) (field order 4 20 block) 28
-      (length block - 32)
+    (length block - 32)
 
 -- as much of a packet as its interface captures
 abbrev pub bounded_by : ℕ → ℕ → ℕ
@@ -127,7 +127,7 @@ abbrev pub simple_turn : Order → Option Interface → List ℕ → Result Turn
 simple_turn order None block = Err reasons.Interface
 simple_turn order (Some i) block =
     packet_turn i no_moment (field order 4 8 block) (bounded_by i.snap_length (field order 4 8 block)) 12
-      (length block - 16)
+    (length block - 16)
 
 -- what a block of this type says, behind these interfaces
 abbrev pub turn_by : List Interface → Order → ℕ → List ℕ → Result Turn Reason
@@ -135,7 +135,7 @@ turn_by interfaces order kind block =
     if kind == section_header then (if has_version order block then Ok turns.Section else Err reasons.Version)
     else if kind == interface_description then
     (if nat_le most_interfaces (length interfaces) then Err reasons.TooManyInterfaces
-        else Ok (turns.Interface (interface_in order block)))
+    else Ok (turns.Interface (interface_in order block)))
     else if kind == enhanced_packet then full_turn order (slice_get interfaces (field order 4 8 block)) block
     else if kind == obsolete_packet then full_turn order (slice_get interfaces (field order 2 8 block)) block
     else if kind == simple_packet then simple_turn order (slice_get interfaces 0) block

@@ -83,7 +83,7 @@ abbrev pub destination_after : List Connection → Packet → Option ℕ → Des
 destination_after cs p None = Another
 destination_after cs p (Some last) =
     option_map_or (λ z. destination_beside cs last z p (option_and_then (λ o. opened_among o cs) (opening_in p)))
-      (slice_get cs last) Another
+    (slice_get cs last) Another
 
 -- where a packet belongs
 abbrev pub destination_of : List Connection → Packet → Destination

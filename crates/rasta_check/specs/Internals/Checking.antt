@@ -32,12 +32,12 @@ take_at p u slot position (Some c) =
     if not (nat_lt c.place slot) then Err not_yet_crossed
     else if nat_lt position u.passed then Err not_rising
     else cursor_unless (take_fault p u.state u.state.clock)
-      (record {
-        level = slot;
-        made_count = u.made_count;
-        passed = suc position;
-        state = after_take p u.state c.pdu.safety;
-      })
+    (record {
+      level = slot;
+      made_count = u.made_count;
+      passed = suc position;
+      state = after_take p u.state c.pdu.safety;
+    })
 
 abbrev pub take_found : Parameters → List FirstCopy → ScriptCursor → ℕ → Option ℕ → Result ScriptCursor ℕ
 take_found p peer u slot None = Err not_yet_crossed
@@ -87,7 +87,7 @@ follow_from p side packets own peer entry u [] = if u.made_count == length own t
     else Err (fault_of_end make_missing entry side)
 follow_from p side packets own peer entry u (x ∷ xs) =
     then_follow (λ v. follow_from p side packets own peer (suc entry) v xs) entry side
-      (next_cursor p packets own peer u x)
+    (next_cursor p packets own peer u x)
 
 -- a whole script
 abbrev pub follow : Parameters → Side → ℕ → List FirstCopy → List FirstCopy → List Entry → Result EndState Fault

@@ -67,8 +67,11 @@ proof_place own peer unit (c ∷ copies) = if nat_lt unit (units_shown own peer 
 abbrev pub units_from : List SafetyPdu → List FirstCopy → ℕ → List FirstCopy → List TakenUnit
 units_from own peer unit [] = []
 units_from own peer unit (c ∷ data_pdus) =
-    record { messages = messages_in c.pdu.safety.body; data_place = c.place;
-      proof_place = proof_place own (pdus_of peer) unit peer } ∷ units_from own peer (suc unit) data_pdus
+    record {
+      messages = messages_in c.pdu.safety.body;
+      data_place = c.place;
+      proof_place = proof_place own (pdus_of peer) unit peer;
+    } ∷ units_from own peer (suc unit) data_pdus
 
 -- the data PDUs of a sent list
 abbrev pub data_copies : List FirstCopy → List FirstCopy

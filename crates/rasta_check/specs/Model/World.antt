@@ -41,11 +41,15 @@ pub data Moves (p : Parameters) (peer : Station) (crossed : List Packet) : Stati
   -- it makes a PDU, and a datagram that spells it crosses, under the station's next redundancy number
   makes : {a : Station} (x : SafetyPdu) (why : Why) (after : EndState) (channel reserve : ℕ) (check bytes : List ℕ)
       → Makes p a.state x a.clock why after
-      → Spells p a.state.side (record { reserve = reserve; number = wrapped (a.first_number + length a.state.made);
-        safety = x; check_bytes = check }) bytes
+      → Spells p a.state.side (record {
+        reserve = reserve;
+        number = wrapped (a.first_number + length a.state.made);
+        safety = x;
+        check_bytes = check;
+      }) bytes
       → IsRecorded p channel
       → Moves p peer crossed a (making x why channel reserve check) (record a { state = after })
-        (crossed ++ record { channel = channel; side = a.state.side; payload = bytes } ∷ [])
+      (crossed ++ record { channel = channel; side = a.state.side; payload = bytes } ∷ [])
   -- its packet at this place crosses again
   repeats : {a : Station} (place channel : ℕ) (old : Packet)
       → slice_get crossed place ≡ Some old → old.side ≡ a.state.side → IsRecorded p channel
@@ -85,8 +89,13 @@ pub data Step (p : Parameters) : World → World → Type 0 where
 -- a station at the start: nothing has arrived, and from a quiet point the peer's quiet PDU was taken
 abbrev pub first_station : Parameters → Side → ℕ → Station
 first_station p side number =
-    record { state = start_of p side; clock = (start_of p side).clock; arrived = []; mark = (start_of p side).base;
-      first_number = number }
+    record {
+      state = start_of p side;
+      clock = (start_of p side).clock;
+      arrived = [];
+      mark = (start_of p side).base;
+      first_number = number;
+    }
 
 -- the world at the start: nothing has crossed
 abbrev pub first_world : Parameters → ℕ → ℕ → World

@@ -34,8 +34,11 @@ copy_lines level side (Some old) = record { level = level; side = side; what = c
 -- the line of what a station does beside this peer, after these packets
 abbrev pub lines_of_move : Side → Station → Station → List Packet → Move → List Line
 lines_of_move side a peer crossed (making x why channel reserve check) =
-    record { level = length crossed; side = side;
-      what = made (wrapped (a.first_number + length a.state.made)) a.clock why } ∷ []
+    record {
+      level = length crossed;
+      side = side;
+      what = made (wrapped (a.first_number + length a.state.made)) a.clock why;
+    } ∷ []
 lines_of_move side a peer crossed (repeating place channel) = copy_lines (length crossed) side (slice_get crossed place)
 lines_of_move side a peer crossed (arriving position) =
     record { level = length crossed; side = side; what = brought (wrapped (peer.first_number + position)) } ∷ []

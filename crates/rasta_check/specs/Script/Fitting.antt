@@ -108,8 +108,8 @@ pub data FirstFault (p : Parameters) (side : Side) (packets : ℕ) (own peer : L
   at_entry : (front behind : List Entry) (x : Entry) (made left : List FirstCopy) (e : EndState)
       (before : Fits p side packets made peer front e) (number : ℕ)
       → script ≡ front ++ x ∷ behind → own ≡ made ++ left → option_or (first_that_holds
-        (entry_tests packets own peer (level_after 0 front) (length made) (position_after 0 before.positions) x))
-        (end_fault p e left x) ≡ Some number
+      (entry_tests packets own peer (level_after 0 front) (length made) (position_after 0 before.positions) x))
+      (end_fault p e left x) ≡ Some number
       → FirstFault p side packets own peer script (fault_of_end number (suc (length front)) side)
   after_last : (made left : List FirstCopy) (c : FirstCopy) (e : EndState)
       → Fits p side packets made peer script e → own ≡ made ++ c ∷ left

@@ -30,14 +30,14 @@ pub data Advances (p : Parameters) (packets : ℕ) (own peer : List FirstCopy) :
       → slice_get peer position ≡ Some c → c.place < slot → u.passed ≤ position
       → Takes p u.state c.pdu.safety u.state.clock after
       → Advances p packets own peer u (Take slot c.pdu.number)
-        (record { level = slot; made_count = u.made_count; passed = suc position; state = after })
+      (record { level = slot; made_count = u.made_count; passed = suc position; state = after })
   -- a make: of the next PDU of the own sent list
   makes_next : {u : ScriptCursor} (c : FirstCopy) (clock : ℕ) (why : Why) (after : EndState)
       → u.level ≤ c.place
       → slice_get own u.made_count ≡ Some c
       → Makes p u.state c.pdu.safety clock why after
       → Advances p packets own peer u (Make c.place clock why)
-        (record { level = suc c.place; made_count = suc u.made_count; passed = u.passed; state = after })
+      (record { level = suc c.place; made_count = suc u.made_count; passed = u.passed; state = after })
 
 -- these entries lead from here to there, one after the other
 abbrev pub Leads : Parameters → ℕ → List FirstCopy → List FirstCopy → ScriptCursor → List Entry → ScriptCursor → Type 0

@@ -16,5 +16,5 @@ returns z p h = record {
   only = λ packets rest packet sent more are s few g.
       let own = to_record p packets packet.side sent h.valid s in
       faultless p packets packet.side sent packet h own (omega arith)
-        (can_follow p packets rest packet.side sent packet own (omega arith) refl more (to_record p _ packet.side more h.valid g));
+      (can_follow p packets rest packet.side sent packet own (omega arith) refl more (to_record p _ packet.side more h.valid g));
 }
