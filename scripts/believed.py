@@ -6,9 +6,10 @@
 A NAME is a public call, as `rasta_check::check`, one clause of it, as `rasta_check::check.headline`, or a definition,
 as `rasta_check::Headline`. It prints how many definitions of this repository the contract (or the definition) cites,
 directly or through others, with their lines, by crate. Lines are those of definitions, without imports, comments and
-blank lines; one of more than 120 characters counts as the lines of 120 that it fills. A type that the code declares counts with the lines of its declaration, and a type with a model with those
-of the model, but without its inverse, which is proved to undo the view. What the toolchain defines isn't counted.
-`--list` names each.
+blank lines; what stands between brackets is one line, and one of more than 120 characters counts as the lines of 120
+that it fills, so that it doesn't matter where lines are broken. A type that the code declares counts with the lines of
+its declaration, and a type with a model with those of the model, but without its inverse, which is proved to undo the
+view. What the toolchain defines isn't counted. `--list` names each.
 
 Names are found by the text: a variable that has the name of an imported definition counts as that definition, so the
 figures are rather too high than too low.
@@ -36,9 +37,22 @@ TOKEN = re.compile(r"(?<![\w.◌-])[^\s(){}\[\],;:.λ→×⊎∀≡]+(?:\.[^\s()
 TYPE = re.compile(r"^(?:pub(?:\([a-z]+\))? )?(?:enum|struct) (\w+)")
 
 
+def joined(lines):
+    """The lines, with what stands between brackets in one."""
+    depth, before = 0, ""
+    for line in lines:
+        before = f"{before} {line.strip()}" if before else line
+        depth += sum(line.count(it) for it in "([{") - sum(line.count(it) for it in ")]}")
+        if depth <= 0:
+            yield before
+            depth, before = 0, ""
+    if before:
+        yield before
+
+
 def lines_in(lines):
     """How many lines of at most 120 characters these fill."""
-    return sum(max(1, -(-len(it) // WIDTH)) for it in lines)
+    return sum(max(1, -(-len(it) // WIDTH)) for it in joined(lines))
 
 
 def without_comments(text, mark):
