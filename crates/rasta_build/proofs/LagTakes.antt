@@ -5,7 +5,7 @@ use Rattle.rasta_build.proofs.Prelude.{RetransmissionRequest, RetransmissionResp
 use Rattle.rasta_build.proofs.Prelude.{ResentInSequence, Gap, GapInRetransmission, Resumed, Requested, RequestedAhead, RequestedWhileAsking, Disconnected, Made, EndState, is_owing}
 use Rattle.rasta_build.proofs.Prelude.{is_closed, is_active, is_retr_req, is_flowing, carries_unit, effect, effect_by, after_take, take_row, take_fault, steps_past_next, is_in}
 use Rattle.rasta_build.proofs.Prelude.{is_ahead, accept, enter, hand_up, FirstCopy, row_known, number, Valued, Taken, Built, catch_up}
-use Rattle.rasta_end.specs.State.{is_heartbeat_or_data}
+use Rattle.rasta_pdu.specs.Pdu.{is_heartbeat_or_data}
 use Rattle.rasta_check.proofs.Model.NamedPositions.{position_is}
 use Rattle.rasta_check.proofs.Model.ConveyedUnits.{values}
 use Rattle.rasta_check.proofs.Model.OfferedUnits.{conveyed_most}

@@ -11,14 +11,14 @@ pub use Rattle.rasta_pcap.specs.declared.fault.Side.{Side}
 pub use Rattle.rasta_pcap.specs.declared.fault.Side.TheVariants.{Client, Server}
 pub use Rattle.rasta_udp.specs.Frame.{Packet}
 pub use Rattle.rasta_pdu.specs.Params.{AreParameters, Parameters}
-pub use Rattle.rasta_pdu.specs.Pdu.{RedundancyPdu, SafetyPdu, is_kind}
+pub use Rattle.rasta_pdu.specs.Pdu.{RedundancyPdu, SafetyPdu, is_kind, carries_unit}
 pub use Rattle.rasta_pdu.specs.declared.kind.Kind.{Kind}
 pub use Rattle.rasta_pdu.specs.declared.kind.Kind.TheVariants.{Data, DisconnectionRequest, Heartbeat, RetransmissionRequest, RetransmissionResponse}
 pub use Rattle.rasta_pdu.specs.declared.quiet_point.Quiet.{Quiet}
 pub use Rattle.rasta_end.proofs.MakeTests.{no_test}
 pub use Rattle.rasta_end.specs.MakeRule.{after_make, confirms_a_time, confirms_last, has_ended, is_early, is_expired, is_judged, is_past, make_fault, row_of}
 pub use Rattle.rasta_end.specs.Starts.{start_by, start_of}
-pub use Rattle.rasta_end.specs.State.{EndState, Made, ahead_by, carries_unit, content_of, first_sn, is_active, is_client, is_closed, is_flowing, is_owing, is_retr_req, is_start, reason_of, wrapped}
+pub use Rattle.rasta_end.specs.State.{EndState, Made, ahead_by, content_of, first_sn, is_active, is_client, is_closed, is_flowing, is_owing, is_retr_req, is_start, reason_of, wrapped}
 pub use Rattle.rasta_end.specs.TakeRule.{accept, after_take, effect, effect_by, enter, hand_up, is_ahead, is_in, steps_past_next, take_fault, take_row}
 pub use Rattle.rasta_end.specs.declared.make_row.MakeRow.{MakeRow}
 pub use Rattle.rasta_end.specs.declared.owed.Owed.{Owed}

@@ -5,7 +5,7 @@ use Rattle.rasta_build.proofs.Prelude.{RetransmissionResponse, OweRetransmission
 use Rattle.rasta_build.proofs.Prelude.{Gap, GapInRetransmission, RequestedAhead, RequestedWhileAsking, Made, EndState, is_owing}
 use Rattle.rasta_build.proofs.Prelude.{effect, take_row, take_fault, steps_past_next, is_in, is_ahead, FirstCopy, number, slice_get_some, Built, copy_at, is_trigger}
 use Rattle.rasta_build.proofs.Prelude.{taken_by}
-use Rattle.rasta_end.specs.State.{is_timed, is_heartbeat_or_data}
+use Rattle.rasta_pdu.specs.Pdu.{is_timed, is_heartbeat_or_data}
 use Rattle.rasta_check.proofs.Model.Counts.{number_take_more, number_take_at}
 use Rattle.rasta_build.specs.Explaining.{try_at, scan, first_tried, take_trigger, positions_tried}
 use Rattle.rasta_build.proofs.Readiness.{IsReady, ConveysNoMore, ready_step, ready_effect}

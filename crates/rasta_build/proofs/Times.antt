@@ -2,7 +2,7 @@
 use Rattle.std.proofs.Common.{◌≡◌, ℕ, ◌+◌, ◌*◌, ◌≤◌, ◌⊎◌, Bool, true, false, Option, Some, None, ap, sym, ◌∙◌, arith, subst}
 use Rattle.rasta_build.proofs.Prelude.{if◌then◌else◌, Parameters, SafetyPdu, TakeRow, FirstHeartbeat, InSequence, ResentInSequence, Resumed}
 use Rattle.rasta_build.proofs.Prelude.{Requested, EndState, is_past, hand_up, effect}
-use Rattle.rasta_end.specs.State.{is_timed}
+use Rattle.rasta_pdu.specs.Pdu.{is_timed}
 use Rattle.rasta_end.specs.TakeRule.{deadline_from}
 
 -- the same end with another clock and another deadline

@@ -6,14 +6,14 @@ use Rattle.rasta_pcap.specs.Fault.{fault_at, no_memory, not_found}
 use Rattle.rasta_pcap.specs.declared.fault.Fault.{Fault}
 use Rattle.rasta_pcap.specs.declared.fault.Side.{Side}
 use Rattle.rasta_pcap.specs.declared.fault.Side.TheVariants.{Client, Server}
-use Rattle.rasta_pdu.specs.Pdu.{SafetyPdu, is_kind}
+use Rattle.rasta_pdu.specs.Pdu.{SafetyPdu, is_kind, is_timed}
 use Rattle.rasta_pdu.specs.declared.pdu.Pdu.{Pdu}
 use Rattle.rasta_pdu.specs.declared.kind.Kind.{Kind}
 use Rattle.rasta_pdu.specs.declared.kind.Kind.TheVariants.{ConnectionRequest, ConnectionResponse, RetransmissionRequest}
 use Rattle.rasta_pdu.specs.declared.kind.Kind.TheVariants.{RetransmissionResponse, DisconnectionRequest, Heartbeat}
 use Rattle.rasta_pdu.specs.declared.kind.Kind.TheVariants.{Data, RetransmittedData}
 use Rattle.rasta_pdu.specs.declared.quiet_point.Quiet.{Quiet}
-use Rattle.rasta_end.specs.State.{EndState, ahead_by, is_owing, is_timed, is_client, is_start, reason_of}
+use Rattle.rasta_end.specs.State.{EndState, ahead_by, is_owing, is_client, is_start, reason_of}
 use Rattle.rasta_end.specs.Starts.{sn_before}
 use Rattle.rasta_end.specs.declared.why.Why.{Why}
 use Rattle.rasta_end.specs.declared.why.Why.TheVariants.{Open, Reply, Beat, Fresh, Again, Ask, Bye, Expired}

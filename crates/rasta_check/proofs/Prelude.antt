@@ -21,7 +21,7 @@ pub use Rattle.rasta_udp.specs.Frame.{Packet, packet_of}
 unfoldable pub use Rattle.rasta_udp.specs.Frame.{packet_in}
 pub use Rattle.rasta_pdu.specs.Messages.{AreBytes}
 pub use Rattle.rasta_pdu.specs.Params.{AreParameters, Parameters}
-pub use Rattle.rasta_pdu.specs.Pdu.{RedundancyPdu, SafetyPdu, is_kind, messages_in, value_of}
+pub use Rattle.rasta_pdu.specs.Pdu.{RedundancyPdu, SafetyPdu, is_kind, messages_in, value_of, carries_unit}
 unfoldable pub use Rattle.rasta_pdu.specs.Pdu.{decode_of, redundancy_bytes}
 pub use Rattle.rasta_pdu.specs.declared.kind.Kind.{Kind}
 pub use Rattle.rasta_pdu.specs.declared.kind.Kind.TheVariants.{ConnectionRequest, ConnectionResponse, Data, DisconnectionRequest, RetransmissionRequest, RetransmissionResponse, RetransmittedData}
@@ -29,7 +29,7 @@ pub use Rattle.rasta_pdu.specs.declared.pdu.Pdu.{Pdu}
 pub use Rattle.rasta_pdu.specs.declared.quiet_point.Quiet.{Quiet}
 pub use Rattle.rasta_end.specs.MakeRule.{Makes, after_make, after_make_by, contents, first_that_holds, has_ended, make_fault, phase_after, row_of}
 pub use Rattle.rasta_end.specs.Starts.{start_by, start_of}
-pub use Rattle.rasta_end.specs.State.{EndState, Made, carries_unit, content_of, first_sn, is_closed, is_connected, is_flowing, kinds, wrapped}
+pub use Rattle.rasta_end.specs.State.{EndState, Made, content_of, first_sn, is_closed, is_connected, is_flowing, kinds, wrapped}
 pub use Rattle.rasta_end.specs.TakeRule.{Takes, after_take, effect, is_valid, position_confirmed, resends, take_fault}
 pub use Rattle.rasta_end.specs.Units.{last_of, units_at}
 pub use Rattle.rasta_end.specs.declared.make_row.MakeRow.{MakeRow}

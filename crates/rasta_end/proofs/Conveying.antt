@@ -3,7 +3,8 @@ use Rattle.std.proofs.Common.{◌≡◌, ℕ, zero, suc, ◌+◌, ◌<◌, ◌�
 use Rattle.std.specs.Prelude.{fold, slice_index_or}
 use Rattle.std.proofs.lemmas.List.Sums.{fold-append}
 use Rattle.std.proofs.lemmas.List.{length_push, length-map}
-use Rattle.rasta_end.specs.State.{Made, carries_unit, kinds}
+use Rattle.rasta_end.specs.State.{Made, kinds}
+use Rattle.rasta_pdu.specs.Pdu.{carries_unit}
 use Rattle.rasta_pdu.specs.declared.kind.Kind.{Kind}
 use Rattle.rasta_pdu.specs.declared.kind.Kind.TheVariants.{RetransmissionResponse, Data, RetransmittedData}
 use Rattle.rasta_end.specs.Units.{Conveyed, convey, conveyed, all_units_conveyed, units_after, responses_after, responses_in, units_at, last_of, units_conveyed}

@@ -3,8 +3,7 @@ use Rattle.std.specs.Prelude.{ℕ, ◌+◌, ◌-◌, ◌%◌, ◌^◌, Bool, tru
 use Rattle.rasta_pcap.specs.declared.fault.Side.{Side}
 use Rattle.rasta_pcap.specs.declared.fault.Side.TheVariants.{Client, Server}
 use Rattle.rasta_pdu.specs.declared.kind.Kind.{Kind}
-use Rattle.rasta_pdu.specs.declared.kind.Kind.TheVariants.{Heartbeat, Data, RetransmittedData}
-use Rattle.rasta_pdu.specs.Pdu.{SafetyPdu, SafetyBody, Bye, Messages, is_kind}
+use Rattle.rasta_pdu.specs.Pdu.{SafetyPdu, SafetyBody, Bye, Messages}
 use Rattle.rasta_end.specs.declared.owed.Owed.{Owed}
 use Rattle.rasta_end.specs.declared.phase.Phase.{Phase}
 use Rattle.rasta_end.specs.declared.phase.Phase.TheVariants.{Closed, Down, Start, Up, RetrReq, RetrRun}
@@ -101,20 +100,6 @@ is_connected phase = is_up phase || (is_retr_req phase || is_retr_run phase)
 -- Start, Up, RetrReq or RetrRun
 abbrev pub is_active : Phase → Bool
 is_active phase = is_start phase || is_connected phase
-
-abbrev pub is_heartbeat_or_data : Kind → Bool
-is_heartbeat_or_data Heartbeat = true
-is_heartbeat_or_data Data = true
-is_heartbeat_or_data _ = false
-
--- types by which deadlines are set
-abbrev pub is_timed : Kind → Bool
-is_timed kind = is_heartbeat_or_data kind || is_kind RetransmittedData kind
-
-abbrev pub carries_unit : Kind → Bool
-carries_unit Data = true
-carries_unit RetransmittedData = true
-carries_unit _ = false
 
 -- the reason of a disconnection request, else 0
 abbrev pub reason_of : SafetyBody → ℕ

@@ -9,7 +9,7 @@ use Rattle.rasta_pdu.specs.declared.kind.Kind.TheVariants.{ConnectionResponse, R
 use Rattle.rasta_pdu.specs.declared.kind.Kind.TheVariants.{RetransmissionResponse, Heartbeat, Data, RetransmittedData}
 use Rattle.rasta_pdu.specs.declared.kind.Kind.TheVariants.{ConnectionRequest, DisconnectionRequest}
 use Rattle.rasta_pdu.specs.Params.{Parameters}
-use Rattle.rasta_pdu.specs.Pdu.{SafetyPdu, is_kind}
+use Rattle.rasta_pdu.specs.Pdu.{SafetyPdu, is_kind, is_heartbeat_or_data, is_timed, carries_unit}
 use Rattle.rasta_end.specs.declared.phase.Phase.{Phase}
 use Rattle.rasta_end.specs.declared.phase.Phase.TheVariants.{Closed, Start, Up, RetrReq, RetrRun}
 use Rattle.rasta_end.specs.declared.take_row.TakeRow.{TakeRow}
@@ -26,7 +26,6 @@ use Rattle.rasta_end.specs.declared.owed.Owed.TheVariants.{RetransmissionRequest
 use Rattle.rasta_end.specs.Units.{units_conveyed}
 use Rattle.rasta_end.specs.State.{EndState, raised, ahead_by, sn_at, kinds, is_owing, is_client, is_closed, is_down}
 use Rattle.rasta_end.specs.State.{is_start, is_up, is_retr_req, is_retr_run, is_flowing, is_active}
-use Rattle.rasta_end.specs.State.{is_heartbeat_or_data, is_timed, carries_unit}
 use Rattle.rasta_end.specs.MakeRule.{first_that_holds, is_past}
 
 -- how many steps after the next position of the peer the PDU stands, modulo 2^32

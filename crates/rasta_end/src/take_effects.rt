@@ -11,7 +11,6 @@ use crate::deadline::deadline_from;
 use crate::end::End;
 use crate::owed::Owes;
 use crate::phase::Phase;
-use crate::take_row::is_timed;
 use rasta_pdu::Pdu;
 use std::alloc::AllocError;
 
@@ -28,7 +27,7 @@ impl<'a> End<'a> {
     pub(crate) fn note_time(&mut self, pdu: &Pdu<'a>)
         ensures { self.new ≡ record self.old { state = TakeRule.note_time self.old.params self.old.state (value_of pdu.now).safety } }
     {
-        if is_timed(pdu.kind()) {
+        if pdu.kind().is_timed() {
             self.timed_ts = Some(pdu.ts());
             self.deadline = Some(deadline_from(&self.params, self.clock, pdu.cts()));
         }

@@ -1,6 +1,5 @@
 //! The take table.
 ghost use Rattle.std.specs.Prelude.{◌≡◌, ◌&&◌, ◌∷◌, [], true, IfSome};
-ghost use Rattle.rasta_end.specs.State;
 ghost use Rattle.rasta_end.specs.MakeRule;
 ghost use Rattle.rasta_end.specs.TakeRule;
 
@@ -35,20 +34,6 @@ pub enum TakeRow {
     RequestedWhileAsking,
     /// A disconnection request.
     Disconnected,
-}
-
-/// Whether PDUs of this type are time-relevant.
-pub fn is_timed(kind: Kind) -> bool
-    ensures { result ≡ State.is_timed kind }
-{
-    matches!(kind, Kind::Heartbeat | Kind::Data | Kind::RetransmittedData)
-}
-
-/// Whether PDUs of this type carry a unit: data, for the first time or again.
-pub fn carries_unit(kind: Kind) -> bool
-    ensures { result ≡ State.carries_unit kind }
-{
-    matches!(kind, Kind::Data | Kind::RetransmittedData)
 }
 
 /// Where a PDU stands and what it confirms: it is in sequence, it stands ahead, its CS is valid.

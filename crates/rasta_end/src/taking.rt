@@ -1,7 +1,7 @@
 //! What an end takes.
 ghost use Rattle.std.specs.Prelude.{◌≡◌, ◌≤◌, ◌<◌, ◌+◌, ◌^◌, ◌++◌, ◌∷◌, [], length, true, false, if◌then◌else◌, Some, None, OnOk, OnErr, IfErr, IfSome};
 ghost use Rattle.rasta_pdu.specs.Pdu.{value_of};
-ghost use Rattle.rasta_end.specs.State;
+ghost use Rattle.rasta_pdu.specs.Pdu as pdus;
 ghost use Rattle.rasta_end.specs.State.{is_owing};
 ghost use Rattle.rasta_end.specs.TakeRule;
 ghost use Rattle.rasta_end.specs.TakeRule.{take_row, wants_valid, effect, IsTakeRefusal};
@@ -14,7 +14,7 @@ use crate::deadline::is_past;
 use crate::end::End;
 use crate::owed::{Owed, Owes};
 use crate::phase::Phase;
-use crate::take_row::{Standing, TakeRow, carries_unit};
+use crate::take_row::{Standing, TakeRow};
 use rasta_pdu::{Fault, Pdu};
 use std::alloc::AllocError;
 
@@ -90,9 +90,9 @@ impl<'a> End<'a> {
         requires room { self.old.state.accepted < 2 ^ 63 }
         ensures ok { OnOk result (self.new ≡ record self.old { state = effect self.old.params InSequence self.old.state (value_of pdu.now).safety }) }
         ensures err { OnErr result (self.new ≡ self.old) }
-        ensures grows { OnErr result (State.carries_unit (value_of pdu.now).safety.kind ≡ true) }
+        ensures grows { OnErr result (pdus.carries_unit (value_of pdu.now).safety.kind ≡ true) }
     {
-        if carries_unit(pdu.kind()) {
+        if pdu.kind().carries_unit() {
             self.hand_up(self.accepted, pdu)?;
         }
         self.accept(pdu);
@@ -105,9 +105,9 @@ impl<'a> End<'a> {
         requires room { self.old.state.accepted < 2 ^ 63 }
         ensures ok { OnOk result (self.new ≡ record self.old { state = effect self.old.params ResentInSequence self.old.state (value_of pdu.now).safety }) }
         ensures err { OnErr result (self.new ≡ self.old) }
-        ensures grows { OnErr result (State.carries_unit (value_of pdu.now).safety.kind ≡ true) }
+        ensures grows { OnErr result (pdus.carries_unit (value_of pdu.now).safety.kind ≡ true) }
     {
-        if carries_unit(pdu.kind()) {
+        if pdu.kind().carries_unit() {
             self.hand_up(self.accepted, pdu)?;
         }
         self.accept(pdu);

@@ -4,7 +4,7 @@ use Rattle.std.proofs.Common.{◌≡◌, ℕ, zero, suc, ◌*◌, ◌<◌, List,
 use Rattle.std.specs.Prelude.{fold, slice_index}
 use Rattle.std.specs.List.{flat_map}
 use Rattle.byteorder.specs.Endian.{little_bytes}
-use Rattle.rasta_md4.specs.Md4.{block_at, blocks, compress, md4, padding, round_1, round_2, round_3, step}
+use Rattle.rasta_md4.specs.Md4.{block_at, blocks, compress, md4, padding, round_1, round_2, round_3, step, start_words}
 use Rattle.rasta_md4.proofs.Blocks.{length-blocks}
 use Rattle.rasta_md4.proofs.Padding.{padding_whole, length-padding}
 
@@ -57,16 +57,12 @@ pub byte-md4 : (words message : List ℕ) (i : ℕ) → slice_index (md4 words m
 unfolding md4
 byte-md4 words message i = byte-words _ i
 
--- the start words of the RFC (section 3.3)
-abbrev rfc_words : List ℕ
-rfc_words = 0x67452301 ∷ 0xefcdab89 ∷ 0x98badcfe ∷ 0x10325476 ∷ []
-
 -- a448017aaf21d8525fc10ae87aa6729d
-pub digest_of_abc : md4 rfc_words (codes "abc") ≡ 0xa4 ∷ 0x48 ∷ 0x01 ∷ 0x7a ∷ 0xaf ∷ 0x21 ∷ 0xd8 ∷ 0x52 ∷ 0x5f ∷ 0xc1 ∷ 0x0a ∷ 0xe8 ∷ 0x7a ∷ 0xa6 ∷ 0x72 ∷ 0x9d ∷ []
+pub digest_of_abc : md4 start_words (codes "abc") ≡ 0xa4 ∷ 0x48 ∷ 0x01 ∷ 0x7a ∷ 0xaf ∷ 0x21 ∷ 0xd8 ∷ 0x52 ∷ 0x5f ∷ 0xc1 ∷ 0x0a ∷ 0xe8 ∷ 0x7a ∷ 0xa6 ∷ 0x72 ∷ 0x9d ∷ []
 unfolding md4 padding blocks block_at compress step round_1 round_2 round_3
 digest_of_abc = refl
 
 -- 043f8582f241db351ce627e153e7f0e4, of 62 bytes, whose padding takes a second block
-pub digest_of_two_blocks : md4 rfc_words (codes "ABCDEFGHIJKLMNOPQRSTUVWXYZabcdefghijklmnopqrstuvwxyz0123456789") ≡ 0x04 ∷ 0x3f ∷ 0x85 ∷ 0x82 ∷ 0xf2 ∷ 0x41 ∷ 0xdb ∷ 0x35 ∷ 0x1c ∷ 0xe6 ∷ 0x27 ∷ 0xe1 ∷ 0x53 ∷ 0xe7 ∷ 0xf0 ∷ 0xe4 ∷ []
+pub digest_of_two_blocks : md4 start_words (codes "ABCDEFGHIJKLMNOPQRSTUVWXYZabcdefghijklmnopqrstuvwxyz0123456789") ≡ 0x04 ∷ 0x3f ∷ 0x85 ∷ 0x82 ∷ 0xf2 ∷ 0x41 ∷ 0xdb ∷ 0x35 ∷ 0x1c ∷ 0xe6 ∷ 0x27 ∷ 0xe1 ∷ 0x53 ∷ 0xe7 ∷ 0xf0 ∷ 0xe4 ∷ []
 unfolding md4 padding blocks block_at compress step round_1 round_2 round_3
 digest_of_two_blocks = refl

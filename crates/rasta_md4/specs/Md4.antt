@@ -6,6 +6,10 @@ use Rattle.std.specs.Int.{w32, bit_not, rotate_left}
 use Rattle.std.specs.List.{flat_map, range_with_len}
 use Rattle.byteorder.specs.Endian.{little_bytes, little_number}
 
+-- the start words of the RFC (section 3.3)
+abbrev pub start_words : List ℕ
+start_words = 0x67452301 ∷ 0xefcdab89 ∷ 0x98badcfe ∷ 0x10325476 ∷ []
+
 -- ---- the blocks of a message
 
 -- A word is four bytes in a row, the low-order byte first (section 2).

@@ -19,6 +19,9 @@ mod rounds;
 /// The length of a digest in bytes.
 pub const DIGEST_LEN: usize = 16;
 
+/// The start words of RFC 1320 (section 3.3).
+pub const START_WORDS: [u32; 4] = [0x6745_2301, 0xefcd_ab89, 0x98ba_dcfe, 0x1032_5476];
+
 // The length of a block in bytes.
 const BLOCK_LEN: usize = 64;
 
@@ -51,7 +54,7 @@ impl Model for Md4 {
 
 impl Md4 {
     /// The empty message. The digest begins from `words`, the registers A, B, C and D in this
-    /// order; those of RFC 1320 (section 3.3) are 67452301, EFCDAB89, 98BADCFE and 10325476.
+    /// order; those of RFC 1320 are [`START_WORDS`].
     pub fn with_words(words: [u32; 4]) -> Self
         ensures { result ≡ holding words [] }
     {

@@ -10,13 +10,14 @@ use Rattle.rasta_pcap.specs.declared.fault.Fault.{Fault}
 use Rattle.rasta_pcap.specs.Fault.{fault_at, no_memory, not_toml, missing_key, bad_value}
 use Rattle.rasta_udp.specs.declared.channel.Channel.{Channel}
 use Rattle.rasta_udp.specs.declared.channel.Endpoint.{Endpoint}
+use Rattle.rasta_md4.specs.Md4.{start_words}
 use Rattle.rasta_pdu.specs.Params.{Parameters, are_distinct, most_clock, routes}
 use Rattle.rasta_pdu.specs.declared.quiet_point.Quiet.{Quiet}
 use Rattle.rasta_pdu.specs.declared.quiet_point.QuietEnd.{QuietEnd}
 use Rattle.rasta_params.specs.Endpoints.{endpoint_of}
 use Rattle.rasta_params.specs.StartWords.{words_of}
 use Rattle.rasta_params.specs.declared.document.Ids.{Ids}
-use Rattle.rasta_params.specs.declared.document.Layout.{Layout}
+use Rattle.rasta_params.specs.declared.document.CodeSettings.{CodeSettings}
 use Rattle.rasta_params.specs.declared.document.Limits.{Limits}
 use Rattle.rasta_params.specs.declared.document.Window.{Window}
 
@@ -217,10 +218,6 @@ quiet_of slack (Some d) = as_found (quiet_of_table slack (as_table d))
 unfoldable pub quiet_at : ℕ → Members → Result (Option Quiet) Fault
 quiet_at slack ms = quiet_of slack (get_member (codes "quiet") ms)
 
--- the start words of the RFC
-abbrev pub rfc_words : List ℕ
-rfc_words = 0x67452301 ∷ 0xefcdab89 ∷ 0x98badcfe ∷ 0x10325476 ∷ []
-
 abbrev pub known_keys : List (List ℕ)
 known_keys = codes "client_id" ∷ codes "server_id" ∷ codes "code_length" ∷ codes "md4_start" ∷ codes "check_length"
     ∷ codes "n_sendmax" ∷ codes "t_max" ∷ codes "slack" ∷ codes "first_record" ∷ codes "last_record" ∷ codes "channel"
@@ -251,11 +248,11 @@ check_length_at ms = required 5 (λ d. check_length (as_integer d)) (get_member 
 
 -- the start words, those of the RFC where none are recorded
 unfoldable pub md4_start_at : Members → Result (List ℕ) Fault
-md4_start_at ms = optional 4 rfc_words (λ d. words_text_of (as_str d)) (get_member (codes "md4_start") ms)
+md4_start_at ms = optional 4 start_words (λ d. words_text_of (as_str d)) (get_member (codes "md4_start") ms)
 
 -- the length of the safety code, the start words, the length of the check code
-unfoldable pub layout_of : Members → Result Layout Fault
-layout_of ms = do
+unfoldable pub code_settings_of : Members → Result CodeSettings Fault
+code_settings_of ms = do
   code_length ← code_length_at ms
   md4_start ← md4_start_at ms
   check_length ← check_length_at ms
@@ -275,13 +272,13 @@ window_of ms = do
   last_record ← optional_at 10 (codes "last_record") first_record 4000000000 4000000000 ms
   Ok (record { first_record = first_record; last_record = last_record })
 
-abbrev pub parameters_with : Ids → Layout → Limits → Window → List Channel → Option Quiet → Parameters
-parameters_with ids layout limits window channels quiet = record {
+abbrev pub parameters_with : Ids → CodeSettings → Limits → Window → List Channel → Option Quiet → Parameters
+parameters_with ids settings limits window channels quiet = record {
   client_id = ids.client_id;
   server_id = ids.server_id;
-  code_length = layout.code_length;
-  md4_start = layout.md4_start;
-  check_length = layout.check_length;
+  code_length = settings.code_length;
+  md4_start = settings.md4_start;
+  check_length = settings.check_length;
   n_sendmax = limits.n_sendmax;
   t_max = limits.t_max;
   slack = limits.slack;
@@ -295,12 +292,12 @@ parameters_with ids layout limits window channels quiet = record {
 unfoldable pub known_of : Members → Result Parameters Fault
 known_of ms = do
   ids ← ids_of ms
-  layout ← layout_of ms
+  settings ← code_settings_of ms
   limits ← limits_of ms
   window ← window_of ms
   channels ← channels_at ms
   quiet ← quiet_at limits.slack ms
-  Ok (parameters_with ids layout limits window channels quiet)
+  Ok (parameters_with ids settings limits window channels quiet)
 
 -- the parameters of a document; keys of other names are judged last
 unfoldable pub parameters_of : Members → Result Parameters Fault

@@ -5,12 +5,12 @@ use Rattle.hex.specs.Hex.{decode_sized}
 use Rattle.hex.specs.declared.error.FromHexError.{FromHexError}
 
 -- the word of the four bytes from a place on, highest byte first
-abbrev pub word_at : List ℕ → ℕ → ℕ
-word_at bytes at = from_be_bytes w32 (take 4 (drop at bytes))
+abbrev pub big_word_at : List ℕ → ℕ → ℕ
+big_word_at bytes at = from_be_bytes w32 (take 4 (drop at bytes))
 
 -- four words of four bytes each
 abbrev pub four_words : List ℕ → List ℕ
-four_words bytes = word_at bytes 0 ∷ word_at bytes 4 ∷ word_at bytes 8 ∷ word_at bytes 12 ∷ []
+four_words bytes = big_word_at bytes 0 ∷ big_word_at bytes 4 ∷ big_word_at bytes 8 ∷ big_word_at bytes 12 ∷ []
 
 abbrev pub words_in : Result (List ℕ) FromHexError → Option (List ℕ)
 words_in (Ok bytes) = Some (four_words bytes)

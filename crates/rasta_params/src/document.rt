@@ -5,12 +5,13 @@ ghost use Rattle.rasta_pdu.specs.Params.{AreChannels, AreLengths, AreLimits, IsQ
 ghost use Rattle.std.specs.List.{list_all};
 ghost use Rattle.toml.specs.Data.{as_array, as_integer, as_table};
 ghost use Rattle.toml.specs.View.{items_view, table_view, view};
-ghost use Rattle.rasta_params.specs.Keys.{ReadsParameters, are_among, are_few_tables, channel_in, channel_of, channels_at, channels_in, check_length, check_length_at, code_length, code_length_at, endpoint_at, few_tables, ids_of, known_keys, known_of, layout_of, limits_of, md4_start_at, number_of_key, parameters_of, parameters_with, window_of};
+ghost use Rattle.rasta_params.specs.Keys.{ReadsParameters, are_among, are_few_tables, channel_in, channel_of, channels_at, channels_in, check_length, check_length_at, code_length, code_length_at, endpoint_at, few_tables, ids_of, known_keys, known_of, code_settings_of, limits_of, md4_start_at, number_of_key, parameters_of, parameters_with, window_of};
 
 use crate::endpoint::endpoint_in;
 use crate::key_values::{has_keys_among, number, optional, value_at};
 use crate::quiet_table::quiet_of;
 use crate::start_words::start_words_in;
+use rasta_md4::START_WORDS;
 use rasta_pdu::{Channel, Endpoint, Fault, Params, Quiet, are_distinct_routes};
 use std::alloc::Global;
 use toml::{Table, Value};
@@ -22,10 +23,10 @@ pub struct Ids {
     pub server_id: u32,
 }
 
-/// The layout of the PDUs: the lengths of safety code and check code, in bytes, and the start words of
+/// What is recorded of codes: the lengths of safety code and check code, in bytes, and the start words of
 /// the digest that safety codes are taken from.
 #[derive(Clone, Copy)]
-pub struct Layout {
+pub struct CodeSettings {
     pub code_length: u8,
     pub md4_start: [u32; 4],
     pub check_length: u8,
@@ -114,8 +115,6 @@ fn read_check_length(table: &Table) -> Result<u8, Fault>
     }
 }
 
-const RFC_WORDS: [u32; 4] = [0x6745_2301, 0xefcd_ab89, 0x98ba_dcfe, 0x1032_5476];
-
 #[tactic(auto, unfolding(crate::specs::Keys::md4_start_at))]
 fn read_md4_start(table: &Table) -> Result<[u32; 4], Fault>
     ensures { result ≡ md4_start_at (table_view table.now) }
@@ -125,19 +124,19 @@ fn read_md4_start(table: &Table) -> Result<[u32; 4], Fault>
             Some(text) => start_words_in(text).ok_or(Fault::at(Fault::BAD_VALUE, 4)),
             None => Err(Fault::at(Fault::BAD_VALUE, 4)),
         },
-        None => Ok(RFC_WORDS),
+        None => Ok(START_WORDS),
     }
 }
 
-#[tactic(auto, unfolding(crate::specs::Keys::layout_of))]
-fn read_layout(table: &Table) -> Result<Layout, Fault>
-    ensures value { result ≡ layout_of (table_view table.now) }
+#[tactic(auto, unfolding(crate::specs::Keys::code_settings_of))]
+fn read_code_settings(table: &Table) -> Result<CodeSettings, Fault>
+    ensures value { result ≡ code_settings_of (table_view table.now) }
     ensures valid { IfOk result (λ l. AreLengths l.code_length l.check_length) }
 {
     let code_length = read_code_length(table)?;
     let md4_start = read_md4_start(table)?;
     let check_length = read_check_length(table)?;
-    Ok(Layout {
+    Ok(CodeSettings {
         code_length,
         md4_start,
         check_length,
@@ -338,27 +337,27 @@ fn has_known_keys(table: &Table) -> bool
 // The parameters of these values, which are all in their ranges.
 fn assembled(
     ids: Ids,
-    layout: Layout,
+    settings: CodeSettings,
     limits: Limits,
     window: Window,
     channels: &[Channel],
     quiet: Option<Quiet>,
 ) -> Option<Params>
     requires distinct { ids.client_id ≢ ids.server_id }
-    requires lengths { AreLengths layout.code_length layout.check_length }
+    requires lengths { AreLengths settings.code_length settings.check_length }
     requires most { limits.n_sendmax ≤ 65535 }
     requires limits { AreLimits limits.n_sendmax limits.t_max limits.slack }
     requires window { IsWindow window.first_record window.last_record }
     requires channels { AreChannels channels.now }
     requires quiet { IfSome quiet (IsQuiet limits.slack) }
-    ensures { result ≡ Some (parameters_with ids layout limits window channels.now quiet) }
+    ensures { result ≡ Some (parameters_with ids settings limits window channels.now quiet) }
 {
     Params::new(
         ids.client_id,
         ids.server_id,
-        layout.code_length,
-        layout.md4_start,
-        layout.check_length,
+        settings.code_length,
+        settings.md4_start,
+        settings.check_length,
         limits.n_sendmax as u16,
         limits.t_max as u16,
         limits.slack as u16,
@@ -374,12 +373,15 @@ fn read_known_keys(alloc: Global, table: &Table) -> Result<Params, Fault>
     ensures { (result ≡ Err no_memory) ⊎ (result ≡ known_of (table_view table.now)) }
 {
     let ids = read_ids(table)?;
-    let layout = read_layout(table)?;
+    let settings = read_code_settings(table)?;
     let limits = read_limits(table)?;
     let window = read_window(table)?;
     let channels = channels_of(alloc, table)?;
     let quiet = quiet_of(table, limits.slack)?;
-    assembled(ids, layout, limits, window, &channels, quiet).ok_or(Fault::at(Fault::BAD_VALUE, 11))
+    assembled(ids, settings, limits, window, &channels, quiet).ok_or(Fault::at(
+        Fault::BAD_VALUE,
+        11,
+    ))
 }
 
 #[tactic(auto, unfolding(crate::specs::Keys::parameters_of))]

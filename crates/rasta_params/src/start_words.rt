@@ -3,7 +3,7 @@ ghost use Rattle.std.specs.Prelude.{◌≡◌, ◌↔◌, ◌+◌, ◌≤◌, le
 ghost use Rattle.std.specs.List.{AllPass};
 ghost use Rattle.std.specs.Result.{result_ok};
 ghost use Rattle.hex.specs.Hex.{decode_sized, is_hex_digit};
-ghost use Rattle.rasta_params.specs.StartWords.{four_words, word_at, words_of};
+ghost use Rattle.rasta_params.specs.StartWords.{four_words, big_word_at, words_of};
 
 use hex::FromHex;
 
@@ -16,9 +16,9 @@ fn bytes_in(text: &str) -> Option<[u8; 16]>
 }
 
 // The word of the four bytes from a place on, highest byte first.
-fn word_at(bytes: &[u8; 16], at: usize) -> u32
+fn big_word_at(bytes: &[u8; 16], at: usize) -> u32
     requires { at + 4 ≤ 16 }
-    ensures { result ≡ word_at bytes.now at }
+    ensures { result ≡ big_word_at bytes.now at }
 {
     u32::from_be_bytes([bytes[at], bytes[at + 1], bytes[at + 2], bytes[at + 3]])
 }
@@ -27,10 +27,10 @@ fn four_words(bytes: &[u8; 16]) -> [u32; 4]
     ensures { result ≡ four_words bytes.now }
 {
     [
-        word_at(bytes, 0),
-        word_at(bytes, 4),
-        word_at(bytes, 8),
-        word_at(bytes, 12),
+        big_word_at(bytes, 0),
+        big_word_at(bytes, 4),
+        big_word_at(bytes, 8),
+        big_word_at(bytes, 12),
     ]
 }
 

@@ -1,7 +1,7 @@
 -- The messages of a payload, read and spelled.
 use Rattle.std.proofs.Common.{◌≡◌, ℕ, zero, suc, ◌+◌, ◌-◌, ◌^◌, ◌<◌, ◌≤◌, List, [], ◌∷◌, ◌++◌, length, take, drop, Bool, true, false, cond, nat_le, nat_eq, nat_lt, ◌&&◌, not, get_or, refl, ap, sym, ◌∙◌, arith, append_assoc, append-nil, length-drop, length-append, length-take}
 use Rattle.std.proofs.Math.Seq.{take-append_seam, drop-append_seam}
-use Rattle.std.proofs.lemmas.List.{nil_from_length}
+use Rattle.std.proofs.lemmas.List.{drop-drop, nil_from_length}
 use Rattle.std.proofs.lemmas.List.Folds.{drop_split}
 use Rattle.rasta_pdu.proofs.Places.{length-slice_range}
 use Rattle.rasta_pdu.proofs.Numbers.{AreBytes-drop, two_at}
@@ -11,7 +11,7 @@ use Rattle.byteorder.specs.Endian.{little_bytes, little_number}
 use Rattle.byteorder.specs.Numbers.{little_number-reads_back}
 use Rattle.std.specs.Borrow.{Bor}
 use Rattle.rasta_pdu.specs.Parts.{lists_of}
-use Rattle.rasta_pdu.specs.Messages.{payload_of_messages, has_message, first_message, after_message, messages_up_to, messages_of, are_messages, AreBytes, AreShort}
+use Rattle.rasta_pdu.specs.Messages.{payload_of_messages, has_message, first_message, after_message, messages_up_to, messages_of, are_messages, behind_messages, AreBytes, AreShort}
 
 -- the bytes after a message are fewer
 length-after : (xs : List ℕ) → length (after_message xs) ≡ length xs - (2 + little_number 2 xs)
@@ -73,12 +73,33 @@ full : (f r l : ℕ) → f + r ≡ l → (nat_lt 0 l && nat_eq f l) ≡ (not (na
 full f r l e = grind (arith, nat_tests)
 
 -- the messages fill the payload where nothing is left after the last
-pub are_messages-is : (payload rest : List ℕ) → has_message rest ≡ false → filled payload + length rest ≡ filled rest + length payload
+pub are_messages-is : (payload rest : List ℕ) → filled payload + length rest ≡ length payload
     → are_messages payload ≡ (not (nat_eq (length payload) 0) && nat_eq (length rest) 0)
 unfolding are_messages
-are_messages-is payload rest h e =
+are_messages-is payload rest e = full (filled payload) (length rest) (length payload) e
+
+-- no bytes are no payload of messages
+pub are_messages-empty : (payload : List ℕ) → length payload ≡ 0 → are_messages payload ≡ false
+unfolding are_messages
+are_messages-empty payload h = ap (λ (n : ℕ). nat_lt 0 n && nat_eq (filled payload) n) h
+
+-- what is left behind all messages is left behind those after the first
+pub behind_more : (xs : List ℕ) → has_message xs ≡ true
+    → drop (filled xs) xs ≡ drop (filled (after_message xs)) (after_message xs)
+behind_more xs h =
+    let more = filled_more xs h in
+    let less = length-after xs in
+    let room : 2 + little_number 2 xs ≤ length xs = leb-true (2 + little_number 2 xs) (length xs) h in
+    let sum : filled xs ≡ 2 + little_number 2 xs + filled (after_message xs) = omega arith in
+    ap (λ (k : ℕ). drop k xs) sum ∙ sym (drop-drop (filled (after_message xs)) (2 + little_number 2 xs) xs)
+
+-- it is there where none begins
+pub behind_messages-is : (payload rest : List ℕ) → has_message rest ≡ false
+    → drop (filled payload) payload ≡ drop (filled rest) rest → rest ≡ behind_messages payload
+unfolding behind_messages
+behind_messages-is payload rest h e =
     let none = filled_none rest h in
-    full (filled payload) (length rest) (length payload) (omega arith)
+    sym (e ∙ ap (λ (k : ℕ). drop k rest) none)
 
 -- no bytes are no messages
 pub no_messages : messages_of [] ≡ []

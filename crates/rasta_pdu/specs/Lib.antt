@@ -6,4 +6,5 @@ pub mod Stored
 pub mod Messages
 pub mod Lengths
 pub mod Pdu
+pub mod Fields
 pub mod Parts

@@ -38,6 +38,10 @@ messages_up_to (suc n) bytes =
 unfoldable pub messages_of : List ℕ → List (List ℕ)
 messages_of payload = messages_up_to (length payload) payload
 
+-- what is left behind the messages of a payload
+unfoldable pub behind_messages : List ℕ → List ℕ
+behind_messages payload = drop (length (payload_of_messages (messages_of payload))) payload
+
 -- there is a message, and nothing is left after the last
 unfoldable pub are_messages : List ℕ → Bool
 are_messages payload =

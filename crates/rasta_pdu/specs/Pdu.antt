@@ -1,6 +1,6 @@
 -- The PDUs of the two layers: their values, how they are spelled, and how bytes are read.
 use Rattle.std.specs.Prelude.{◌≡◌, ℕ, ◌+◌, ◌-◌, ◌<◌, ◌^◌, List, [], ◌∷◌, ◌++◌, length, take, drop, slice_range, Option}
-use Rattle.std.specs.Prelude.{Some, None, Result, Ok, Err, Bool, ◌&&◌, nat_le, ◌==◌, if◌then◌else◌, IsTrue, bytes_eq}
+use Rattle.std.specs.Prelude.{Some, None, Result, Ok, Err, Bool, true, false, ◌&&◌, ◌||◌, nat_le, ◌==◌, if◌then◌else◌, IsTrue, bytes_eq}
 use Rattle.std.specs.List.{list_all}
 use Rattle.std.specs.Borrow.{Bor}
 use Rattle.byteorder.specs.Endian.{little_bytes, little_number}
@@ -78,6 +78,20 @@ kind_of number =
     else if number == 6240 then Some Data
     else if number == 6241 then Some RetransmittedData
     else None
+
+abbrev pub is_heartbeat_or_data : Kind → Bool
+is_heartbeat_or_data Heartbeat = true
+is_heartbeat_or_data Data = true
+is_heartbeat_or_data _ = false
+
+-- types by which deadlines are set
+abbrev pub is_timed : Kind → Bool
+is_timed kind = is_heartbeat_or_data kind || is_kind RetransmittedData kind
+
+abbrev pub carries_unit : Kind → Bool
+carries_unit Data = true
+carries_unit RetransmittedData = true
+carries_unit _ = false
 
 -- what a payload consists of
 pub data Layout : Type 0 where

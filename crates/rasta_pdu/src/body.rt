@@ -4,7 +4,7 @@ ghost use Rattle.std.specs.List.{list_all};
 ghost use Rattle.rasta_pdu.specs.Lengths.{has_payload_length};
 ghost use Rattle.rasta_pdu.specs.Pdu.{body_in, body_at, body_of, is_digit, is_version, layout_of, payload_of, OpeningFields, ByeFields};
 
-use crate::bytes::u16_at;
+use crate::fields::u16_at;
 use crate::kind::Kind;
 use crate::layout::{BYE_LEN, OPENING_LEN, REASON_AT, RESERVED_AT, SENDMAX_AT, VERSION_LEN};
 use crate::messages::are_messages;

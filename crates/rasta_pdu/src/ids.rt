@@ -6,7 +6,7 @@ ghost use Rattle.rasta_pdu.specs.Pdu.{receiver_of, sender_of};
 use crate::params::Params;
 use rasta_udp::Side;
 
-// The receiver and the sender of what this side sends.
+/// The recorded receiver and sender of what this side sends.
 pub fn recorded_ids(params: &Params, side: Side) -> (u32, u32)
     ensures receiver { result.0 ≡ receiver_of params.now side }
     ensures sender { result.1 ≡ sender_of params.now side }

@@ -1,6 +1,7 @@
 //! The types of safety PDUs.
 ghost use Rattle.std.specs.Prelude.{◌≡◌};
 ghost use Rattle.rasta_pdu.specs.Pdu.{type_of, is_kind, kind_of};
+ghost use Rattle.rasta_pdu.specs.Pdu as pdus;
 
 /// The type of a PDU of the safety and retransmission layer.
 #[derive(Clone, Copy, Debug, PartialEq, Eq)]
@@ -16,6 +17,18 @@ pub enum Kind {
 }
 
 impl Kind {
+    /// All types, in the order of their numbers.
+    pub const ALL: [Kind; 8] = [
+        Kind::ConnectionRequest,
+        Kind::ConnectionResponse,
+        Kind::RetransmissionRequest,
+        Kind::RetransmissionResponse,
+        Kind::DisconnectionRequest,
+        Kind::Heartbeat,
+        Kind::Data,
+        Kind::RetransmittedData,
+    ];
+
     /// The type with this number, as it stands in the PDU.
     pub fn of(number: u16) -> Option<Kind>
         ensures { result ≡ kind_of number }
@@ -54,5 +67,33 @@ impl Kind {
         ensures { result ≡ is_kind wanted self }
     {
         self.number() == wanted.number()
+    }
+
+    /// Whether PDUs of this type are time-relevant: deadlines are set by them.
+    pub fn is_timed(self) -> bool
+        ensures { result ≡ pdus.is_timed self }
+    {
+        matches!(self, Kind::Heartbeat | Kind::Data | Kind::RetransmittedData)
+    }
+
+    /// Whether PDUs of this type carry a unit: data, for the first time or again.
+    pub fn carries_unit(self) -> bool
+        ensures { result ≡ pdus.carries_unit self }
+    {
+        matches!(self, Kind::Data | Kind::RetransmittedData)
+    }
+
+    /// The name of the type, in words.
+    pub fn name(self) -> &'static str {
+        match self {
+            Kind::ConnectionRequest => "connection request",
+            Kind::ConnectionResponse => "connection response",
+            Kind::RetransmissionRequest => "retransmission request",
+            Kind::RetransmissionResponse => "retransmission response",
+            Kind::DisconnectionRequest => "disconnection request",
+            Kind::Heartbeat => "heartbeat",
+            Kind::Data => "data",
+            Kind::RetransmittedData => "retransmitted data",
+        }
     }
 }

@@ -1,7 +1,7 @@
 //! The datagram by which a copy is known.
 ghost use Rattle.std.specs.Prelude.{◌≡◌, ◌≢◌, ◌⊎◌, ◌↔◌, [], IsTrue, true, false};
 
-use crate::bytes::u32_at;
+use crate::fields::u32_at;
 use crate::layout::{NUMBER_AT, SAFETY_AT};
 use std::alloc::Global;
 use std::marker::Model;

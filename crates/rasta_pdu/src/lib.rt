@@ -3,30 +3,34 @@
 #![tactic(auto)]
 
 mod body;
-mod bytes;
 mod code;
+pub mod fields;
 mod ids;
 mod kind;
 mod last_datagram;
 pub mod laws;
-mod layout;
+pub mod layout;
 mod messages;
 mod params;
 mod parts;
 mod pdu;
 mod quiet_point;
+mod ranges;
 mod read;
 mod route;
 mod write;
 
 pub use body::Body;
+pub use fields::Fields;
+pub use ids::recorded_ids;
 pub use kind::Kind;
 pub use last_datagram::LastDatagram;
-pub use messages::Messages;
+pub use messages::{Messages, behind_messages};
 pub use params::Params;
 pub use parts::PduParts;
 pub use pdu::Pdu;
 pub use quiet_point::{Quiet, QuietEnd};
+pub use ranges::{Coded, coded_in, least_length, payload_in, safety_length};
 pub use rasta_udp::{Channel, Endpoint, Fault, Side, Sink, Source};
 pub use read::{decode, read_decoded};
 pub use route::are_distinct_routes;

@@ -8,7 +8,7 @@ ghost use Rattle.std.specs.Ordering.{eq_of_both, on};
 ghost use Rattle.rasta_pdu.specs.Lengths.{has_payload_length};
 
 use crate::body::{Body, body_at, spelling};
-use crate::bytes::{u16_at, u32_at};
+use crate::fields::{u16_at, u32_at};
 use crate::kind::Kind;
 use crate::layout::{CS_AT, CTS_AT, NUMBER_AT, PAYLOAD_AT, RESERVE_AT, SN_AT, TS_AT};
 use crate::messages::Messages;

@@ -6,8 +6,8 @@ ghost use Rattle.rasta_pdu.specs.Lengths.{has_payload_length};
 ghost use Rattle.rasta_pdu.specs.Pdu.{RedundancyPdu, IsRedundancyPdu, redundancy_bytes, decode_of, receiver_of, sender_of, value_of, body_at, layout_of, read_code, code_of, pdu_with_body, has_length, has_fields, has_safety_length, has_code, code_at, check_at, little_at};
 
 use crate::body::has_body;
-use crate::bytes::{u16_at, u32_at};
 use crate::code::is_code;
+use crate::fields::{u16_at, u32_at};
 use crate::ids::recorded_ids;
 use crate::kind::Kind;
 use crate::layout::{
@@ -15,6 +15,7 @@ use crate::layout::{
 };
 use crate::params::Params;
 use crate::pdu::Pdu;
+use crate::ranges::{Coded, coded_by, codes_at, has_fields, safety_length};
 use rasta_udp::{Fault, Side};
 
 // The fault of this number. It has no place and no end.
@@ -31,31 +32,12 @@ fn has_length(bytes: &[u8]) -> bool
     bytes.len() >= LENGTH_LEN && usize::from(u16_at(bytes, LENGTH_AT)) == bytes.len()
 }
 
-fn has_fields(params: &Params, bytes: &[u8]) -> bool
-    ensures { result ≡ has_fields params.now bytes.now }
-{
-    let codes = usize::from(params.code_length()) + usize::from(params.check_length());
-    bytes.len() >= PAYLOAD_AT + codes
-}
-
-// Where the safety code begins, and where the check code begins.
-fn codes_at(params: &Params, bytes: &[u8]) -> (usize, usize)
-    requires { 36 + params.now.code_length + params.now.check_length ≤ length bytes.now }
-    ensures code { result.0 ≡ code_at params.now bytes.now }
-    ensures check { result.1 ≡ check_at params.now bytes.now }
-    ensures valid { AreParameters params.now }
-{
-    let check_at = bytes.len() - usize::from(params.check_length());
-    (check_at - usize::from(params.code_length()), check_at)
-}
-
 // Whether the safety PDU ends where the check code begins.
 fn has_safety_length(params: &Params, bytes: &[u8]) -> bool
     requires { 36 + params.now.code_length + params.now.check_length ≤ length bytes.now }
     ensures { result ≡ has_safety_length params.now bytes.now }
 {
-    let check_at = bytes.len() - usize::from(params.check_length());
-    usize::from(u16_at(bytes, SAFETY_AT)) == check_at - SAFETY_AT
+    usize::from(u16_at(bytes, SAFETY_AT)) == safety_length(params, bytes)
 }
 
 // Whether the safety code is that of the safety PDU's other bytes.
@@ -63,9 +45,8 @@ fn has_code(params: &Params, bytes: &[u8]) -> bool
     requires { 36 + params.now.code_length + params.now.check_length ≤ length bytes.now }
     ensures { result ≡ has_code params.now bytes.now }
 {
-    let (code_at, check_at) = codes_at(params, bytes);
-    let covered = &bytes[SAFETY_AT..code_at];
-    is_code(params, covered, &bytes[code_at..check_at])
+    let Coded { covered, code } = coded_by(params, bytes);
+    is_code(params, covered, code)
 }
 
 fn has_id(bytes: &[u8], at: usize, id: u32) -> bool

@@ -148,6 +148,10 @@ map_found f (Err fault) = Err fault
 abbrev pub is_tagged : List ℕ → Bool
 is_tagged frame = nat_le 16 (length frame) && big_at 2 12 frame == 0x8100
 
+-- a frame from its tag on, if it has one: what follows its first 12 bytes stands there as in a frame without a tag
+abbrev pub untagged : List ℕ → List ℕ
+untagged frame = if is_tagged frame then drop 4 frame else frame
+
 -- the frame without its tag, bytes 12 to 15
 abbrev pub without_tag : List ℕ → List ℕ
 without_tag frame = take 12 frame ++ drop 16 frame

@@ -2,3 +2,4 @@ pub use Rattle.rasta_pcap.specs.Fault
 pub use Rattle.rasta_pcap.specs.Devices
 pub use Rattle.rasta_pcap.specs.Capture
 pub mod Frame
+pub mod Route

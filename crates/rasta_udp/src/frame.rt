@@ -1,63 +1,23 @@
 //! The datagram in a captured frame.
 ghost use Rattle.std.specs.Prelude.{◌≡◌, ◌+◌, ◌≤◌, [], ◌∷◌, length, option_map, ◌||◌, nat_lt, ◌==◌};
-ghost use Rattle.rasta_udp.specs.Frame.{Direction, address_of, big_at, header_length_of, fields_of, has_addresses, has_known_addresses, goes, direction_of, map_found, packet_of, packet_at, untagged_of, packet_in};
+ghost use Rattle.rasta_udp.specs.Frame.{Direction, address_of, header_length_of, fields_of, has_addresses, has_known_addresses, goes, direction_of, map_found, packet_of, packet_at, untagged_of, packet_in};
 
 use crate::channel::{Channel, Datagram, Endpoint};
+use crate::fields::{header_length, is_tagged, u16_at, u32_at};
 use crate::layout::{
-    DESTINATION_AT, DESTINATION_PORT_AT, FRAGMENT_AT, PROTOCOL_AT, SOURCE_AT, SOURCE_PORT_AT,
-    TOTAL_LENGTH_AT, TYPE_AT, UDP_LENGTH_AT, VERSION_AT,
+    DESTINATION_AT, DESTINATION_PORT_AT, ETHERNET_HEADER, FRAGMENT_AT, IPV4, LEAST_IPV4_HEADER,
+    PROTOCOL_AT, SOURCE_AT, SOURCE_PORT_AT, TAG, TOTAL_LENGTH_AT, TYPE_AT, UDP, UDP_HEADER,
+    UDP_LENGTH_AT, VERSION_AT,
 };
-use byteorder::{BigEndian, ByteOrder};
 use rasta_pcap::{Fault, Record, Side};
-
-// Type fields of Ethernet II: a packet of IPv4, and a tag of IEEE 802.1Q.
-const IPV4: u16 = 0x0800;
-
-const TAGGED: u16 = 0x8100;
-
-// The protocol number of UDP.
-const UDP: u8 = 17;
-
-// Lengths in bytes; the header of IPv4 has options beyond the least.
-const ETHERNET_HEADER: usize = 14;
-
-const TAG: usize = 4;
-
-const LEAST_IPV4_HEADER: usize = 20;
-
-const UDP_HEADER: usize = 8;
 
 // The flag of more fragments, and the fragment offset.
 const FRAGMENT_BITS: u16 = 0x3fff;
-
-#[tactic(auto, unfolding(crate::specs::Frame::big_at))]
-fn u16_at(bytes: &[u8], place: usize) -> u16
-    requires { place + 2 ≤ length bytes.now }
-    ensures { result ≡ big_at 2 place bytes.now }
-{
-    BigEndian::read_u16(&bytes[place..])
-}
-
-#[tactic(auto, unfolding(crate::specs::Frame::big_at))]
-fn u32_at(bytes: &[u8], place: usize) -> u32
-    requires { place + 4 ≤ length bytes.now }
-    ensures { result ≡ big_at 4 place bytes.now }
-{
-    BigEndian::read_u32(&bytes[place..])
-}
 
 fn address(endpoint: &Endpoint) -> u32
     ensures { result ≡ address_of endpoint.now }
 {
     u32_at(&endpoint.address, 0)
-}
-
-// The length of the IPv4 header, in bytes.
-fn header_length(frame: &[u8]) -> usize
-    requires { 15 ≤ length frame.now }
-    ensures { result ≡ header_length_of frame.now }
-{
-    4 * (frame[VERSION_AT] & 0x0f) as usize
 }
 
 fn is_fragment(frame: &[u8]) -> bool
@@ -145,7 +105,10 @@ fn direction(frame: &[u8], channels: &[Channel]) -> Option<(u8, Side)>
 // The datagram in a frame that has no tag.
 #[inline(always)]
 #[tactic(auto, unfolding(crate::specs::Frame::found_by))]
-fn untagged<'a>(frame: &'a [u8], channels: &[Channel]) -> Result<Option<Datagram<'a>>, Fault>
+fn untagged_datagram<'a>(
+    frame: &'a [u8],
+    channels: &[Channel],
+) -> Result<Option<Datagram<'a>>, Fault>
     requires { length channels.now ≤ 255 }
     ensures { map_found packet_of result ≡ map_found (packet_at frame.now) (untagged_of channels.now frame.now) }
 {
@@ -203,10 +166,10 @@ pub fn datagram<'a>(
     ensures { map_found packet_of result ≡ packet_in channels.now «record».now.bytes.now }
 {
     let frame = record.bytes;
-    if frame.len() >= 16 && u16_at(frame, TYPE_AT) == TAGGED {
+    if is_tagged(frame) {
         // Nothing of the first 12 bytes is read.
-        untagged(&frame[TAG..], channels)
+        untagged_datagram(&frame[TAG..], channels)
     } else {
-        untagged(frame, channels)
+        untagged_datagram(frame, channels)
     }
 }

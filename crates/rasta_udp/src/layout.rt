@@ -13,6 +13,28 @@
 //!
 //! Numbers are big-endian.
 
+/// The type field of Ethernet II of a packet of IPv4.
+pub const IPV4: u16 = 0x0800;
+
+/// The type field of a tag of IEEE 802.1Q.
+pub const TAGGED: u16 = 0x8100;
+
+/// The protocol number of UDP.
+pub const UDP: u8 = 17;
+
+/// The length of the header of Ethernet II without a tag.
+pub const ETHERNET_HEADER: usize = 14;
+
+pub const TAG: usize = 4;
+
+/// The least length of the header of IPv4, which has options beyond it.
+pub const LEAST_IPV4_HEADER: usize = 20;
+
+/// The fewest bytes of a frame without a tag that holds IPv4.
+pub const LEAST_IPV4_FRAME: usize = ETHERNET_HEADER + LEAST_IPV4_HEADER;
+
+pub const UDP_HEADER: usize = 8;
+
 pub const TYPE_AT: usize = 12;
 
 pub const VERSION_AT: usize = 14;
@@ -27,7 +49,7 @@ pub const SOURCE_AT: usize = 26;
 
 pub const DESTINATION_AT: usize = 30;
 
-// From the header of UDP on.
+/// From the header of UDP on, as the next two.
 pub const SOURCE_PORT_AT: usize = 0;
 
 pub const DESTINATION_PORT_AT: usize = 2;

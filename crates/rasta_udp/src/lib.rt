@@ -2,9 +2,12 @@
 #![tactic(auto)]
 
 mod channel;
+pub mod fields;
 mod frame;
-mod layout;
+pub mod layout;
+mod route;
 
 pub use channel::{Channel, Datagram, Endpoint};
 pub use frame::datagram;
 pub use rasta_pcap::{Fault, Record, Side, Sink, Source};
+pub use route::route_in;

@@ -1,8 +1,8 @@
 -- A gap in the redundancy numbers of an end.
 use Rattle.std.specs.Prelude.{◌≡◌, ℕ, ◌+◌, ◌-◌, Bool, List, length, Option, Some, slice_get, option_map}
+use Rattle.rasta_pdu.specs.Fields.{field_at}
 use Rattle.rasta_end.specs.State.{ahead_by, wrapped}
 use Rattle.rasta_check.specs.Capture.SentLists.{FirstCopy}
-use Rattle.seatmelon_account.specs.Fields.{field_at}
 use Rattle.seatmelon_account.specs.declared.gap.Gap.{Gap}
 use Rattle.seatmelon_account.specs.declared.gap.LastBefore.{LastBefore}
 use Rattle.seatmelon_account.specs.declared.gap.Numbers.{Numbers}

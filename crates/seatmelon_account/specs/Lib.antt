@@ -2,7 +2,6 @@ pub mod Account
 pub mod Crossed
 pub mod Deadlines
 pub mod Differences
-pub mod Fields
 pub mod Gaps
 pub mod Hypotheses
 pub mod Layouts

@@ -7,6 +7,7 @@ use Rattle.rasta_pcap.specs.declared.fault.Fault.{Fault}
 use Rattle.rasta_pcap.specs.Fault.{safety_length, too_short, wrong_payload}
 use Rattle.rasta_udp.specs.Frame.{Packet, packet_in}
 use Rattle.rasta_pdu.specs.Params.{Parameters}
+use Rattle.rasta_pdu.specs.Fields.{field_at}
 use Rattle.rasta_pdu.specs.Pdu.{check_at, code_at, receiver_of, sender_of}
 use Rattle.rasta_check.specs.Capture.Crossing.{Crossing, sent_by}
 use Rattle.rasta_check.specs.Capture.Reading.{packet_found}
@@ -19,7 +20,6 @@ use Rattle.seatmelon_reading.specs.declared.capture_refusal.CaptureRefusal.{Capt
 use Rattle.seatmelon_reading.specs.declared.notes.Sighting.{Sighting}
 use Rattle.seatmelon_account.specs.Crossed.{has_opening}
 use Rattle.seatmelon_account.specs.Differences.{differing}
-use Rattle.seatmelon_account.specs.Fields.{field_at}
 use Rattle.seatmelon_account.specs.Gaps.{IsGap}
 use Rattle.seatmelon_account.specs.Layouts.{IsLayout}
 use Rattle.seatmelon_account.specs.declared.differences.Codes.{Codes}

@@ -1,29 +1,11 @@
 //! How a datagram differs from what is due.
-ghost use Rattle.std.specs.Prelude.{◌≡◌, ◌<◌, ◌≤◌, ◌++◌, List, IfSome, None, length, take};
-ghost use Rattle.rasta_pdu.specs.Pdu.{check_at, code_at};
+ghost use Rattle.std.specs.Prelude.{◌≡◌, ◌++◌, List, IfSome, length, take};
 ghost use Rattle.seatmelon_account.specs.Differences.{difference_at, differing};
 ghost use Rattle.seatmelon_account.specs.declared.differences.Difference.{Difference};
 ghost use Rattle.seatmelon_account.specs.Troubles.{AreCodes};
 
-use crate::numbers::SAFETY_AT;
 use arrayvec::ArrayVec;
-use rasta_pdu::Params;
-
-/// Where the safety code of a datagram begins and ends, if the datagram is long enough.
-pub fn code_places(params: &Params, datagram: &[u8]) -> Option<(usize, usize)>
-    ensures some { IfSome result (λ places. (places ≡ (code_at params.now datagram.now, check_at params.now datagram.now))
-        × (8 ≤ places.0) × (places.0 ≤ places.1) × (places.1 ≤ length datagram.now)) }
-    ensures none { result ≡ None → code_at params.now datagram.now < 8 }
-{
-    let end = datagram
-        .len()
-        .checked_sub(usize::from(params.check_length()))?;
-    let start = end.checked_sub(usize::from(params.code_length()))?;
-    if start < SAFETY_AT {
-        return None;
-    }
-    Some((start, end))
-}
+use rasta_pdu::{Coded, Params, coded_in};
 
 /// The safety code of a datagram, and the digest whose first bytes are due in its place.
 #[derive(Clone, Copy)]
@@ -45,10 +27,10 @@ impl Codes<'_> {
 pub fn codes_in<'a>(params: &Params, datagram: &'a [u8]) -> Option<Codes<'a>>
     ensures { IfSome result (AreCodes params.now datagram.now) }
 {
-    let (start, end) = code_places(params, datagram)?;
+    let Coded { covered, code } = coded_in(params, datagram)?;
     Some(Codes {
-        found: &datagram[start..end],
-        digest: rasta_md4::digest(params.md4_start(), &datagram[SAFETY_AT..start]),
+        found: code,
+        digest: rasta_md4::digest(params.md4_start(), covered),
     })
 }
 

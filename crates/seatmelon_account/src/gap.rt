@@ -5,9 +5,9 @@ ghost use Rattle.seatmelon_account.specs.Crossed.{has_opening};
 ghost use Rattle.seatmelon_account.specs.Gaps.{IsGap, IsLastOf};
 
 use crate::crossed::{has_opening, list_of};
-use crate::numbers::{NUMBER_AT, SN_AT, number_at};
 use rasta_check::{SentList, SpanList, Store};
 use rasta_pcap::Side;
+use rasta_pdu::Fields;
 use seatmelon_reading::Sighting;
 
 /// The two numbers of a PDU: that of the redundancy layer, and SN.
@@ -98,10 +98,11 @@ pub fn gap_of(store: &Store, side: Side, datagram: &[u8], later: Option<Sighting
     ensures gap { IfSome result (IsGap (sent_by store.now side) (has_opening store.now) datagram.now) }
     ensures later { IfSome result (λ gap. gap.later ≡ later) }
 {
+    let fields = Fields::of(datagram);
     Some(Gap {
         last: last_of(&list_of(store, side))?,
-        found: number_at(datagram, NUMBER_AT, 4)?,
-        sn_found: number_at(datagram, SN_AT, 4),
+        found: fields.number?,
+        sn_found: fields.sn,
         later,
         has_opening: has_opening(store),
     })

@@ -1,23 +1,15 @@
 //! What is wrong with a packet.
-ghost use Rattle.std.specs.Prelude.{◌≡◌, ◌+◌, ◌-◌, length};
 ghost use Rattle.rasta_udp.specs.Frame.{packet_of};
-ghost use Rattle.rasta_pdu.specs.Pdu.{check_at, receiver_of, sender_of};
 ghost use Rattle.seatmelon_account.specs.Troubles.{TellsOther, TellsTrouble};
 
 use crate::differences::{Codes, Differences, codes_in, differences};
 use crate::gap::{Gap, gap_of};
-use crate::layout::{Layout, layout_in, type_in};
+use crate::layout::{Layout, layout_in};
 use rasta_check::Store;
 use rasta_pcap::{Fault, Side};
-use rasta_pdu::Params;
+use rasta_pdu::{Fields, Params, least_length, recorded_ids, safety_length};
 use rasta_udp::Datagram;
 use seatmelon_reading::{CaptureRefusal, Sighting};
-
-// The bytes of a datagram without payload and codes.
-const LEAST_LENGTH: u64 = 36;
-
-// The bytes of a datagram before its safety PDU.
-const BEFORE_SAFETY: u64 = 8;
 
 /// Another packet with the number of the refused one, and how the refused one differs from it.
 #[derive(Drop)]
@@ -52,7 +44,7 @@ pub enum Trouble<'a> {
     SafetyLength(u64),
 
     /// The number that was found as the type.
-    Type(u32),
+    Type(u16),
 
     /// The payload that was found.
     Payload(Layout<'a>),
@@ -73,31 +65,6 @@ fn first_copy<'a>(refusal: &'a CaptureRefusal, datagram: &[u8]) -> Option<FirstC
         }),
         None => None,
     }
-}
-
-// The ids that are recorded of a sender and of its receiver, which stands first.
-fn ids(params: &Params, sender: Side) -> (u32, u32)
-    ensures { result ≡ (receiver_of params.now sender, sender_of params.now sender) }
-{
-    match sender {
-        Side::Client => (params.server_id(), params.client_id()),
-        Side::Server => (params.client_id(), params.server_id()),
-    }
-}
-
-// The fewest bytes of a datagram with codes of these lengths.
-fn least_length(params: &Params) -> u64
-    ensures { result ≡ 36 + params.now.code_length + params.now.check_length }
-{
-    LEAST_LENGTH + u64::from(params.code_length()) + u64::from(params.check_length())
-}
-
-// The length of the safety layer in a datagram.
-fn safety_length(params: &Params, datagram: &[u8]) -> u64
-    ensures { result ≡ check_at params.now datagram.now - 8 }
-{
-    let around = BEFORE_SAFETY + u64::from(params.check_length());
-    (datagram.len() as u64).saturating_sub(around)
 }
 
 // The gap that the packet of a refused record shows.
@@ -131,13 +98,13 @@ pub fn trouble_of<'a>(
         Fault::COPY_DIFFERS => Trouble::Copy(first_copy(refusal, datagram)),
         Fault::NUMBER_GAP => gap(params, store, refusal, packet),
         Fault::IDS => {
-            let (receiver, sender) = ids(params, packet.side);
+            let (receiver, sender) = recorded_ids(params, packet.side);
             Trouble::Ids { receiver, sender }
         }
         Fault::REDUNDANCY_LENGTH => Trouble::Length(datagram.len() as u64),
-        Fault::TOO_SHORT => Trouble::TooShort(least_length(params)),
-        Fault::SAFETY_LENGTH => Trouble::SafetyLength(safety_length(params, datagram)),
-        Fault::TYPE => Trouble::Type(type_in(datagram)),
+        Fault::TOO_SHORT => Trouble::TooShort(least_length(params) as u64),
+        Fault::SAFETY_LENGTH => { Trouble::SafetyLength(safety_length(params, datagram) as u64) }
+        Fault::TYPE => Trouble::Type(Fields::of(datagram).type_number.unwrap_or(0)),
         Fault::PAYLOAD => Trouble::Payload(layout_in(params, datagram)),
         _ => Trouble::Other,
     }

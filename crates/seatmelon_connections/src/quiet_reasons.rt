@@ -6,7 +6,6 @@ use crate::connection::Connection;
 use crate::quiet::{LastSent, QuietPoints, Reason, RuledOut};
 use rasta_pcap::{Fault, Sink};
 use seatmelon_lines::{parts, write_parts};
-use seatmelon_packets::name_of;
 
 // What a point lacks at the end of the capture.
 #[derive(Clone, Copy)]
@@ -101,7 +100,7 @@ fn write_lack<W: Sink>(writer: &mut W, lack: Lack, is_first_client: bool) -> Res
                 " sends last, in record ",
                 last.stamp.record,
                 ", is of the type ",
-                name_of(last.kind),
+                last.kind.name(),
                 ", and not heartbeat, data or retransmission request.\n"
             ],
         ),

@@ -6,35 +6,12 @@ use Rattle.rasta_pcap.specs.Fault.{cut_packet}
 use Rattle.rasta_pdu.specs.Pdu.{kind_of}
 use Rattle.rasta_pdu.specs.Pdu as pdus
 use Rattle.rasta_udp.specs.declared.channel.Channel.{Channel}
-use Rattle.rasta_udp.specs.declared.channel.Endpoint.{Endpoint}
-use Rattle.rasta_udp.specs.Frame.{Packet, header_length_of, is_tagged, big_at, packet_in}
+use Rattle.rasta_udp.specs.Frame.{Packet, header_length_of, untagged, big_at, packet_in}
+use Rattle.rasta_udp.specs.Route.{route_of}
 use Rattle.seatmelon_packets.specs.Features.{check_length_in}
 use Rattle.seatmelon_packets.specs.declared.cut.Cut.{Cut}
 use Rattle.seatmelon_packets.specs.declared.packet.Sight.{Sight}
 use Rattle.seatmelon_packets.specs.declared.packet.Sight.TheVariants as sights
-
--- a frame from its tag on, if it has one: what follows its first 12 bytes stands there as in a frame without a tag
-abbrev pub untagged : List ℕ → List ℕ
-untagged frame = if is_tagged frame then drop 4 frame else frame
-
-abbrev pub endpoint_at : List ℕ → ℕ → ℕ → Endpoint
-endpoint_at frame address port = record {
-  address = slice_range frame address (address + 4);
-  port = big_at 2 port frame;
-}
-
--- source and destination of a frame without a tag, if it is UDP over IPv4 and both ports were captured
-abbrev pub route_by : List ℕ → Option Channel
-route_by frame =
-    if nat_lt (length frame) 34 then None
-    else if nat_lt (length frame) (18 + header_length_of frame) then None
-    else Some (record {
-      client = endpoint_at frame 26 (14 + header_length_of frame);
-      server = endpoint_at frame 30 (16 + header_length_of frame);
-    })
-
-unfoldable pub route_of : List ℕ → Option Channel
-route_of frame = route_by (untagged frame)
 
 -- what was captured of a datagram of this length begins as RaSTA does: its length field says that length, its safety
 -- PDU and a check code of some length fill the rest, and the type is a known one

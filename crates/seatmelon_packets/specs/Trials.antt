@@ -1,5 +1,6 @@
 -- The parameters by which the lengths of the codes are tried.
 use Rattle.std.specs.Prelude.{ℕ, List, [], ◌∷◌, None, Some}
+use Rattle.rasta_md4.specs.Md4.{start_words}
 use Rattle.rasta_pdu.specs.Params.{Parameters}
 use Rattle.rasta_udp.specs.declared.channel.Channel.{Channel}
 use Rattle.rasta_udp.specs.declared.channel.Endpoint.{Endpoint}
@@ -13,17 +14,13 @@ any_end port = record { address = 0 ∷ 0 ∷ 0 ∷ 0 ∷ []; port = port }
 abbrev pub any_channel : Channel
 any_channel = record { client = any_end 1; server = any_end 2 }
 
--- the registers that MD4 itself begins with
-abbrev pub md4_start : List ℕ
-md4_start = 0x67452301 ∷ 0xefcdab89 ∷ 0x98badcfe ∷ 0x10325476 ∷ []
-
--- codes of these lengths, with MD4's own start words
+-- codes of these lengths, with the start words of MD4 itself
 abbrev pub trial_of : ℕ → ℕ → Parameters
 trial_of code_length check_length = record {
   client_id = 1;
   server_id = 2;
   code_length = code_length;
-  md4_start = md4_start;
+  md4_start = start_words;
   check_length = check_length;
   n_sendmax = 1;
   t_max = 1;

@@ -7,22 +7,11 @@ ghost use Rattle.seatmelon_packets.specs.Cut.{begins_behind, begins_by, begins_p
 ghost use Rattle.seatmelon_packets.specs.Features.{check_length_in};
 
 use crate::recognizer::check_length_in;
-use crate::route::{ETHERNET_HEADER, LEAST_IPV4_FRAME, header_length, u16_at, untagged};
-use byteorder::{ByteOrder, LittleEndian};
-use rasta_pdu::Kind;
+use rasta_pdu::layout::{LENGTH_AT, RECEIVER_AT, SAFETY_AT, TYPE_AT};
+use rasta_pdu::{Kind, fields};
 use rasta_udp::Channel;
-
-// Where fields stand in a datagram, and how many bytes of it are needed, in bytes.
-const SAFETY_AT: usize = 8;
-
-const TYPE_AT: usize = 10;
-
-const LEAST: usize = 12;
-
-// Where the length stands in the header of UDP, and how many bytes that has.
-const UDP_LENGTH_AT: usize = 4;
-
-const UDP_HEADER: usize = 8;
+use rasta_udp::fields::{header_length, u16_at, untagged};
+use rasta_udp::layout::{ETHERNET_HEADER, LEAST_IPV4_FRAME, UDP_HEADER, UDP_LENGTH_AT};
 
 /// What a datagram that wasn't captured whole tells of itself.
 #[derive(Clone, Copy, PartialEq, Eq)]
@@ -39,14 +28,14 @@ pub struct Cut {
 fn begins_pdu(due: usize, bytes: &[u8]) -> bool
     ensures { result ≡ begins_pdu due bytes.now }
 {
-    bytes.len() >= LEAST
-        && usize::from(LittleEndian::read_u16(bytes)) == due
+    bytes.len() >= RECEIVER_AT
+        && usize::from(fields::u16_at(bytes, LENGTH_AT)) == due
         && check_length_in(
-            usize::from(LittleEndian::read_u16(&bytes[SAFETY_AT..])),
+            usize::from(fields::u16_at(bytes, SAFETY_AT)),
             due.saturating_sub(SAFETY_AT),
         )
         .is_some()
-        && Kind::of(LittleEndian::read_u16(&bytes[TYPE_AT..])).is_some()
+        && Kind::of(fields::u16_at(bytes, TYPE_AT)).is_some()
 }
 
 // Whether the datagram behind this header of UDP begins as RaSTA does.

@@ -3,18 +3,6 @@ ghost use Rattle.std.specs.Prelude.{◌<◌};
 
 use rasta_pdu::Kind;
 
-/// The types, in the order of their numbers.
-pub const KINDS: [Kind; 8] = [
-    Kind::ConnectionRequest,
-    Kind::ConnectionResponse,
-    Kind::RetransmissionRequest,
-    Kind::RetransmissionResponse,
-    Kind::DisconnectionRequest,
-    Kind::Heartbeat,
-    Kind::Data,
-    Kind::RetransmittedData,
-];
-
 fn place_of(kind: Kind) -> usize
     ensures { result < 8 }
 {
@@ -27,20 +15,6 @@ fn place_of(kind: Kind) -> usize
         Kind::Heartbeat => 5,
         Kind::Data => 6,
         Kind::RetransmittedData => 7,
-    }
-}
-
-/// The name of a type, in words.
-pub fn name_of(kind: Kind) -> &'static str {
-    match kind {
-        Kind::ConnectionRequest => "connection request",
-        Kind::ConnectionResponse => "connection response",
-        Kind::RetransmissionRequest => "retransmission request",
-        Kind::RetransmissionResponse => "retransmission response",
-        Kind::DisconnectionRequest => "disconnection request",
-        Kind::Heartbeat => "heartbeat",
-        Kind::Data => "data",
-        Kind::RetransmittedData => "retransmitted data",
     }
 }
 

@@ -4,11 +4,9 @@ ghost use Rattle.rasta_pdu.specs.Params.{AreLengths};
 ghost use Rattle.seatmelon_packets.specs.Features.{fit_by, fits_any, fits_by, fits_by_codes};
 ghost use Rattle.seatmelon_packets.specs.Trials.{all_trials, codes_tried, trial_of};
 
+use rasta_md4::START_WORDS;
 use rasta_pdu::{Channel, Fault, Params, Side, decode};
 use rasta_udp::Endpoint;
-
-// The registers that MD4 itself begins with.
-const MD4_START: [u32; 4] = [0x6745_2301, 0xefcd_ab89, 0x98ba_dcfe, 0x1032_5476];
 
 /// How a PDU fits a length of the safety code.
 #[derive(Clone, Copy, PartialEq, Eq)]
@@ -72,7 +70,7 @@ fn trial(code_length: u8, check_length: u8) -> Option<Params>
         1,
         2,
         code_length,
-        MD4_START,
+        START_WORDS,
         check_length,
         1,
         1,

@@ -7,11 +7,9 @@ mod kinds;
 mod lengths;
 mod packet;
 mod recognizer;
-mod route;
 
 pub use cut::Cut;
-pub use kinds::{KINDS, KindCounts, name_of};
+pub use kinds::KindCounts;
 pub use lengths::{Fit, FitCount, Fits, LengthFit, Lengths, Trials, likeliest};
 pub use packet::{Offer, Packet, Sight, Way, packet_in, sight_in};
 pub use recognizer::{Features, Recognizer, features_by};
-pub use route::route_in;

@@ -1,42 +1,15 @@
 //! Packets that have the form of RaSTA.
-ghost use Rattle.std.specs.Prelude.{◌≡◌, ◌+◌, ◌≤◌, length, None};
+ghost use Rattle.std.specs.Prelude.{◌≡◌, None};
 ghost use Rattle.seatmelon_packets.specs.Cut.{cut_in, cut_of};
 
 use crate::cut::{Cut, has_form};
 use crate::lengths::Fits;
 use crate::recognizer::{Features, Recognizer};
-use crate::route::route_in;
-use byteorder::{ByteOrder, LittleEndian};
 use rasta_pcap::CaptureTime;
-use rasta_pdu::Kind;
-use rasta_udp::{Channel, Fault, Record, datagram};
-
-// Offsets and lengths in a datagram, in bytes.
-const NUMBER_AT: usize = 4;
-
-const TYPE_AT: usize = 10;
-
-const RECEIVER_AT: usize = 12;
-
-const SENDER_AT: usize = 16;
-
-const SN_AT: usize = 20;
-
-const CS_AT: usize = 24;
-
-const TS_AT: usize = 28;
-
-const CTS_AT: usize = 32;
-
-const PAYLOAD_AT: usize = 36;
-
-const SENDMAX_AT: usize = 40;
-
-const OPENING_END: usize = 42;
-
-const REASON_AT: usize = 38;
-
-const BYE_END: usize = 40;
+use rasta_pdu::fields::{ending_in, opening_in};
+use rasta_pdu::layout::PAYLOAD_AT;
+use rasta_pdu::{Fields, Kind};
+use rasta_udp::{Channel, Fault, Record, datagram, route_in};
 
 /// What an end says of itself at the opening, in which record: its version, four digits, and its N_sendmax.
 #[derive(Clone, Copy, PartialEq, Eq)]
@@ -85,32 +58,24 @@ pub struct Packet {
     pub hash: u64,
 }
 
-fn u32_at(bytes: &[u8], at: usize) -> u32
-    requires { at + 4 ≤ length bytes.now }
-{
-    LittleEndian::read_u32(&bytes[at..])
-}
-
-fn offer_in(record: u32, kind: Kind, datagram: &[u8]) -> Option<Offer> {
-    let is_opening = matches!(kind, Kind::ConnectionRequest | Kind::ConnectionResponse);
-    if !is_opening || datagram.len() < OPENING_END {
+fn offer_in(record: u32, kind: Kind, payload: &[u8]) -> Option<Offer> {
+    if !matches!(kind, Kind::ConnectionRequest | Kind::ConnectionResponse) {
         return None;
     }
-    let mut version = [0u8; 4];
-    version.copy_from_slice(&datagram[PAYLOAD_AT..SENDMAX_AT]);
+    let (version, sendmax) = opening_in(payload)?;
     Some(Offer {
         record,
         version,
-        sendmax: LittleEndian::read_u16(&datagram[SENDMAX_AT..]),
+        sendmax,
     })
 }
 
-fn reason_in(kind: Kind, datagram: &[u8]) -> Option<u16> {
-    if kind == Kind::DisconnectionRequest && datagram.len() >= BYE_END {
-        Some(LittleEndian::read_u16(&datagram[REASON_AT..]))
-    } else {
-        None
+fn reason_in(kind: Kind, payload: &[u8]) -> Option<u16> {
+    if kind != Kind::DisconnectionRequest {
+        return None;
     }
+    let (_, reason) = ending_in(payload)?;
+    Some(reason)
 }
 
 // Whether the ids are those of two ends, and the addresses and ports those of two places.
@@ -141,13 +106,12 @@ fn packet_by(
     route: Channel,
     bytes: &[u8],
 ) -> Option<Packet> {
-    if bytes.len() < PAYLOAD_AT {
-        return None;
-    }
-    let kind = Kind::of(LittleEndian::read_u16(&bytes[TYPE_AT..]))?;
+    let payload = bytes.get(PAYLOAD_AT..)?;
+    let fields = Fields::of(bytes);
+    let kind = fields.kind()?;
     let way = Way {
-        sender: u32_at(bytes, SENDER_AT),
-        receiver: u32_at(bytes, RECEIVER_AT),
+        sender: fields.sender?,
+        receiver: fields.receiver?,
         route,
     };
     if !is_between_two_ends(&way) {
@@ -159,14 +123,14 @@ fn packet_by(
         time,
         way,
         kind,
-        number: u32_at(bytes, NUMBER_AT),
-        sn: u32_at(bytes, SN_AT),
-        cs: u32_at(bytes, CS_AT),
-        ts: u32_at(bytes, TS_AT),
-        cts: u32_at(bytes, CTS_AT),
+        number: fields.number?,
+        sn: fields.sn?,
+        cs: fields.cs?,
+        ts: fields.ts?,
+        cts: fields.cts?,
         fits,
-        offer: offer_in(number, kind, bytes),
-        reason: reason_in(kind, bytes),
+        offer: offer_in(number, kind, payload),
+        reason: reason_in(kind, payload),
         hash,
     })
 }

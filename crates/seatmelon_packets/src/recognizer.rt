@@ -3,16 +3,12 @@ ghost use Rattle.std.specs.Prelude.{◌≡◌, ◌<◌, ◌≤◌, ◌^◌, leng
 ghost use Rattle.seatmelon_packets.specs.Features.{check_length_in, check_length_of, features_by, hash_of};
 
 use crate::lengths::{Fits, NO_FITS, Trials};
-use byteorder::{ByteOrder, LittleEndian};
 use rasta_pdu::LastDatagram;
+use rasta_pdu::fields::u16_at;
+use rasta_pdu::layout::{PAYLOAD_AT, SAFETY_AT};
 use std::alloc::Global;
 use std::hash::{DefaultHasher, Hasher};
 use std::marker::Model;
-
-// Where the length of the safety PDU stands in a datagram, and where its payload begins, in bytes.
-const SAFETY_AT: usize = 8;
-
-const PAYLOAD_AT: usize = 36;
 
 /// What takes a while to find out of a datagram: how it fits each length of the safety code, and its hash, by which
 /// copies are compared.
@@ -64,7 +60,7 @@ fn check_length(datagram: &[u8]) -> Option<u8>
     requires { 36 ≤ length datagram.now }
     ensures { result ≡ check_length_of datagram.now }
 {
-    let safety = usize::from(LittleEndian::read_u16(&datagram[SAFETY_AT..]));
+    let safety = usize::from(u16_at(datagram, SAFETY_AT));
     check_length_in(safety, datagram.len() - SAFETY_AT)
 }
 

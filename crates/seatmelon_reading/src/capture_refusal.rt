@@ -11,7 +11,7 @@ use crate::notes::{Notes, Sighting};
 use crate::times::time_told;
 use rasta_check::{SentList, SpanList, Store};
 use rasta_pcap::{CaptureTime, Fault, Record, Side};
-use rasta_pdu::{Params, decode};
+use rasta_pdu::{Fields, Params, decode};
 use rasta_udp::{Datagram, datagram};
 use std::alloc::Global;
 
@@ -72,12 +72,6 @@ fn copied(alloc: Global, bytes: &[u8]) -> Result<Vec<u8>, Fault>
     Ok(copy)
 }
 
-// The redundancy number of a datagram, where it is long enough to have one.
-fn number_in(datagram: &[u8]) -> Option<u32> {
-    let bytes = datagram.get(4..8)?;
-    Some(u32::from_le_bytes(bytes.try_into().ok()?))
-}
-
 // The number that an end was to use next, after what crossed; none where it sent nothing.
 fn next_number(list: &SpanList<'_>) -> Option<u32> {
     let (_, first) = list.get(0)?;
@@ -95,7 +89,7 @@ fn wanted_packet(params: &Params, fault: Fault, frame: &[u8], next: Option<u32>)
     let packet = datagram(&record, params.channel()).ok()??;
     let number = match fault.number {
         Fault::NUMBER_GAP => next?,
-        _ => number_in(packet.payload)?,
+        _ => Fields::of(packet.payload).number?,
     };
     Some(Wanted { side, number })
 }

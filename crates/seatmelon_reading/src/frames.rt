@@ -1,40 +1,22 @@
 //! The packet of the recorded channels that a record holds, or why it holds none.
 ghost use Rattle.std.specs.Prelude.{◌≡◌, ◌+◌, ◌≤◌, length, option_map, Some, None};
 ghost use Rattle.rasta_pcap.specs.Captured.{Captured, numbered};
-ghost use Rattle.rasta_udp.specs.Frame.{fields_of, header_length_of, is_tagged, big_at, packet_in, packet_of};
+ghost use Rattle.rasta_udp.specs.Frame.{fields_of, packet_in, packet_of};
 ghost use Rattle.rasta_check.specs.Capture.Reading.{packet_found};
 ghost use Rattle.seatmelon_reading.specs.Noted.{seen_in, why_passed};
 ghost use Rattle.seatmelon_reading.specs.PassedOver.{has_outer_tag, is_behind_tag, is_behind_tags, is_of_channels, is_udp, untagged, why_not};
 
 use crate::passed_over::WhyPassed;
-use byteorder::{BigEndian, ByteOrder};
 use rasta_pcap::Record;
 use rasta_pdu::Params;
+use rasta_udp::fields::{header_length, is_tagged, u16_at};
+use rasta_udp::layout::{
+    IPV4, LEAST_IPV4_FRAME, LEAST_IPV4_HEADER, PROTOCOL_AT, TAG, TAGGED, TYPE_AT, UDP, VERSION_AT,
+};
 use rasta_udp::{Channel, Datagram, datagram};
 
-// Type fields of Ethernet II: a packet of IPv4, a tag of IEEE 802.1Q, and one of IEEE 802.1ad.
-const IPV4: u16 = 0x0800;
-
-const TAGGED: u16 = 0x8100;
-
+// The type field of Ethernet II of a tag of IEEE 802.1ad.
 const SERVICE_TAGGED: u16 = 0x88a8;
-
-// The protocol number of UDP.
-const UDP: u8 = 17;
-
-// Where fields stand in a frame without a tag.
-const TYPE_AT: usize = 12;
-
-const VERSION_AT: usize = 14;
-
-const PROTOCOL_AT: usize = 23;
-
-// Lengths in bytes; the header of IPv4 has options beyond the least.
-const TAG: usize = 4;
-
-const ETHERNET_HEADER: usize = 14;
-
-const LEAST_IPV4_HEADER: usize = 20;
 
 /// The packet of a record, if it holds one of the recorded channels.
 pub fn packet<'r>(params: &Params, record: &Record<'r>) -> Option<Datagram<'r>>
@@ -43,38 +25,15 @@ pub fn packet<'r>(params: &Params, record: &Record<'r>) -> Option<Datagram<'r>>
     datagram(record, params.channel()).ok()?
 }
 
-#[tactic(auto, unfolding(rasta_udp::specs::Frame::big_at))]
-fn u16_at(bytes: &[u8], place: usize) -> u16
-    requires { place + 2 ≤ length bytes.now }
-    ensures { result ≡ big_at 2 place bytes.now }
-{
-    BigEndian::read_u16(&bytes[place..])
-}
-
-// The length of the IPv4 header, in bytes.
-fn header_length(frame: &[u8]) -> usize
-    requires { 15 ≤ length frame.now }
-    ensures { result ≡ header_length_of frame.now }
-{
-    4 * (frame[VERSION_AT] & 0x0f) as usize
-}
-
 // Whether a frame without a tag holds UDP over IPv4.
 fn is_udp(frame: &[u8]) -> bool
     ensures { result ≡ is_udp (fields_of frame.now) }
 {
-    frame.len() >= ETHERNET_HEADER + LEAST_IPV4_HEADER
+    frame.len() >= LEAST_IPV4_FRAME
         && u16_at(frame, TYPE_AT) == IPV4
         && frame[VERSION_AT] >> 4 == 4
         && header_length(frame) >= LEAST_IPV4_HEADER
         && frame[PROTOCOL_AT] == UDP
-}
-
-// Whether the frame has a tag that is passed over where datagrams are read.
-fn is_tagged(frame: &[u8]) -> bool
-    ensures { result ≡ is_tagged frame.now }
-{
-    frame.len() >= 16 && u16_at(frame, TYPE_AT) == TAGGED
 }
 
 // Whether a frame holds UDP over IPv4.

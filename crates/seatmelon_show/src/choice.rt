@@ -5,9 +5,8 @@ ghost use Rattle.rasta_pdu.specs.Pdu.{is_kind};
 ghost use Rattle.seatmelon_show.specs.Sighted.{seen_of};
 ghost use Rattle.seatmelon_show.specs.Typed.{kind_seen};
 
-use crate::fields::kind_in;
 use crate::sight::{Found, Sight};
-use rasta_pdu::Kind;
+use rasta_pdu::{Fields, Kind};
 
 /// Types of PDUs.
 #[derive(Clone, Copy)]
@@ -39,7 +38,7 @@ fn kind_of_sight(sight: &Sight<'_>) -> Option<Kind>
     ensures { result ≡ kind_seen (seen_of sight.now) }
 {
     match sight.found {
-        Found::Datagram(found) => kind_in(found.payload),
+        Found::Datagram(found) => Fields::of(found.payload).kind(),
         Found::Unreadable(_) => None,
     }
 }

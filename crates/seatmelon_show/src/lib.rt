@@ -5,7 +5,6 @@ mod cells;
 mod choice;
 mod counts;
 mod decoding;
-mod fields;
 mod line;
 mod link_types;
 mod listing;

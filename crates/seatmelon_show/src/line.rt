@@ -1,21 +1,15 @@
 //! The lines of a listing.
-ghost use Rattle.std.specs.Prelude.{◌≤◌};
 ghost use Rattle.rasta_pcap.specs.Devices.{AsWritten};
 
 use crate::cells::{Cell, write_cell};
 use crate::counts::Counts;
 use crate::decoding::Decoding;
-use crate::fields::{
-    CS_AT, CTS_AT, NUMBER_AT, RECEIVER_AT, SENDER_AT, SN_AT, TS_AT, TYPE_AT, kind_in, u16_in,
-    u32_in,
-};
-use crate::payload::{payload_in, write_payload};
+use crate::payload::write_payload;
 use crate::sight::{Found, Sight};
 use rasta_pcap::{CaptureTime, Fault, Side, Sink};
-use rasta_pdu::Params;
+use rasta_pdu::{Fields, Params, payload_in};
 use rasta_udp::Datagram;
 use seatmelon_lines::{parts, write_parts, write_words};
-use seatmelon_packets::name_of;
 use seatmelon_pcapng::{Format, Refusal};
 
 // How many characters the columns have.
@@ -45,45 +39,44 @@ pub fn write_head<W: Sink>(writer: &mut W) -> Result<(), Fault>
     write_words(writer, HEAD)
 }
 
-// Writes a number of four bytes of a datagram.
-fn write_field<W: Sink>(writer: &mut W, bytes: &[u8], at: usize) -> Result<(), Fault>
-    requires { at ≤ 65535 }
+// Writes a field, or a dash where there is none.
+fn write_field<W: Sink>(writer: &mut W, field: Option<u32>) -> Result<(), Fault>
     ensures written { AsWritten result (W.failure_count writer.old) (W.failure_count writer.new) }
 {
-    write_cell(writer, Cell::Number(u32_in(bytes, at)), NUMBER)
+    write_cell(writer, Cell::Number(field), NUMBER)
 }
 
 // Writes the type of a datagram: its name, or the number that stands in its place.
-fn write_type<W: Sink>(writer: &mut W, bytes: &[u8]) -> Result<(), Fault>
+fn write_type<W: Sink>(writer: &mut W, fields: &Fields) -> Result<(), Fault>
     ensures written { AsWritten result (W.failure_count writer.old) (W.failure_count writer.new) }
 {
-    match kind_in(bytes) {
-        Some(kind) => write_cell(writer, Cell::Words(name_of(kind)), TYPE),
+    match fields.kind() {
+        Some(kind) => write_cell(writer, Cell::Words(kind.name()), TYPE),
         None => write_cell(
             writer,
-            Cell::Number(u16_in(bytes, TYPE_AT).map(u32::from)),
+            Cell::Number(fields.type_number.map(u32::from)),
             TYPE,
         ),
     }
 }
 
 // Writes the fields of a datagram, as far as it is long enough to have them.
-fn write_fields<W: Sink>(writer: &mut W, bytes: &[u8]) -> Result<(), Fault>
+fn write_fields<W: Sink>(writer: &mut W, fields: &Fields) -> Result<(), Fault>
     ensures written { AsWritten result (W.failure_count writer.old) (W.failure_count writer.new) }
 {
-    write_field(writer, bytes, NUMBER_AT)?;
-    write_type(writer, bytes)?;
-    write_field(writer, bytes, SN_AT)?;
-    write_field(writer, bytes, CS_AT)?;
-    write_field(writer, bytes, TS_AT)?;
-    write_field(writer, bytes, CTS_AT)
+    write_field(writer, fields.number)?;
+    write_type(writer, fields)?;
+    write_field(writer, fields.sn)?;
+    write_field(writer, fields.cs)?;
+    write_field(writer, fields.ts)?;
+    write_field(writer, fields.cts)
 }
 
 // Writes what the payload of a datagram holds, whose layout is that of its type.
 fn write_content<W: Sink>(writer: &mut W, params: &Params, bytes: &[u8]) -> Result<(), Fault>
     ensures written { AsWritten result (W.failure_count writer.old) (W.failure_count writer.new) }
 {
-    match (kind_in(bytes), payload_in(params, bytes)) {
+    match (Fields::of(bytes).kind(), payload_in(params, bytes)) {
         (Some(kind), Some(payload)) => write_payload(writer, kind, payload),
         _ => write_words(writer, "-"),
     }
@@ -104,7 +97,12 @@ fn write_fault<W: Sink>(writer: &mut W, fault: Fault) -> Result<(), Fault>
 fn write_ids<W: Sink>(writer: &mut W, bytes: &[u8]) -> Result<(), Fault>
     ensures written { AsWritten result (W.failure_count writer.old) (W.failure_count writer.new) }
 {
-    match (u32_in(bytes, SENDER_AT), u32_in(bytes, RECEIVER_AT)) {
+    let Fields {
+        sender,
+        receiver,
+        ..
+    } = Fields::of(bytes);
+    match (sender, receiver) {
         (Some(sender), Some(receiver)) => {
             write_parts(
                 writer,
@@ -176,7 +174,7 @@ fn write_datagram<W: Sink>(
         CHANNEL,
     )?;
     write_cell(writer, Cell::Words(name_of_end(found.side)), SENDER)?;
-    write_fields(writer, found.payload)?;
+    write_fields(writer, &Fields::of(found.payload))?;
     write_rest(writer, params, found.payload, decoding)
 }
 
@@ -186,7 +184,7 @@ fn write_unreadable<W: Sink>(writer: &mut W, fault: Fault) -> Result<(), Fault>
 {
     write_cell(writer, Cell::Number(None), CHANNEL)?;
     write_cell(writer, Cell::Words("-"), SENDER)?;
-    write_fields(writer, &[])?;
+    write_fields(writer, &Fields::of(&[]))?;
     write_fault(writer, fault)
 }
 

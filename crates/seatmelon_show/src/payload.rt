@@ -1,20 +1,10 @@
 //! What a payload holds, in a few words.
-ghost use Rattle.std.specs.Prelude.{◌<◌, length, IfSome};
 ghost use Rattle.rasta_pcap.specs.Devices.{AsWritten};
 
-use crate::fields::{PAYLOAD_AT, u16_in};
 use rasta_pcap::{Fault, Sink};
-use rasta_pdu::{Kind, Params};
+use rasta_pdu::fields::{ending_in, opening_in};
+use rasta_pdu::{Kind, Messages};
 use seatmelon_lines::{parts, write_parts, write_words};
-
-// Offsets and lengths in a payload, in bytes.
-const VERSION_LEN: usize = 4;
-
-const SENDMAX_AT: usize = 4;
-
-const REASON_AT: usize = 2;
-
-const LENGTH_LEN: usize = 2;
 
 // How many messages there are, and how many bytes these have together.
 #[derive(Clone, Copy)]
@@ -23,29 +13,15 @@ struct MessageCounts {
     bytes: u64,
 }
 
-// The message that begins a payload, and what follows it; none where the payload ends too soon.
-fn split_message(payload: &[u8]) -> Option<(&[u8], &[u8])>
-    ensures { IfSome result (λ parts. length parts.1.now < length payload.now) }
-{
-    let len = usize::from(u16_in(payload, 0)?);
-    let rest = &payload[LENGTH_LEN..];
-    if rest.len() < len {
-        return None;
-    }
-    Some(rest.split_at(len))
-}
-
 // Counts the messages of a payload.
-fn messages_in(payload: &[u8]) -> MessageCounts {
+fn count_messages(payload: &[u8]) -> MessageCounts {
     let mut counts = MessageCounts {
         messages: 0,
         bytes: 0,
     };
-    let mut rest = payload;
-    while let Some((message, behind)) = split_message(rest) {
+    for message in Messages::of(payload) {
         counts.messages = counts.messages.saturating_add(1);
         counts.bytes = counts.bytes.saturating_add(message.len() as u64);
-        rest = behind;
     }
     counts
 }
@@ -66,7 +42,7 @@ fn write_count<W: Sink>(
 fn write_messages<W: Sink>(writer: &mut W, payload: &[u8]) -> Result<(), Fault>
     ensures written { AsWritten result (W.failure_count writer.old) (W.failure_count writer.new) }
 {
-    let counts = messages_in(payload);
+    let counts = count_messages(payload);
     write_count(writer, counts.messages, " message, ", " messages, ")?;
     write_count(writer, counts.bytes, " byte", " bytes")
 }
@@ -75,11 +51,10 @@ fn write_messages<W: Sink>(writer: &mut W, payload: &[u8]) -> Result<(), Fault>
 fn write_opening<W: Sink>(writer: &mut W, payload: &[u8]) -> Result<(), Fault>
     ensures written { AsWritten result (W.failure_count writer.old) (W.failure_count writer.new) }
 {
-    let Some(sendmax) = u16_in(payload, SENDMAX_AT) else {
+    let Some(opening) = opening_in(payload) else {
         return write_words(writer, "-");
     };
-    let mut version = [0u8; VERSION_LEN];
-    version.copy_from_slice(&payload[..VERSION_LEN]);
+    let (version, sendmax) = opening;
     write_parts(
         writer,
         &parts!["version ", version, ", N_sendmax ", sendmax],
@@ -90,19 +65,12 @@ fn write_opening<W: Sink>(writer: &mut W, payload: &[u8]) -> Result<(), Fault>
 fn write_ending<W: Sink>(writer: &mut W, payload: &[u8]) -> Result<(), Fault>
     ensures written { AsWritten result (W.failure_count writer.old) (W.failure_count writer.new) }
 {
-    match (u16_in(payload, 0), u16_in(payload, REASON_AT)) {
-        (Some(detail), Some(reason)) => {
+    match ending_in(payload) {
+        Some((detail, reason)) => {
             write_parts(writer, &parts!["detail ", detail, ", reason ", reason])
         }
-        _ => write_words(writer, "-"),
+        None => write_words(writer, "-"),
     }
-}
-
-/// The payload of a datagram, without the codes of the recorded lengths; none where it is too short for both.
-pub fn payload_in<'a>(params: &Params, bytes: &'a [u8]) -> Option<&'a [u8]> {
-    let codes = usize::from(params.code_length()) + usize::from(params.check_length());
-    let end = bytes.len().checked_sub(codes)?;
-    bytes.get(PAYLOAD_AT..end)
 }
 
 /// Writes what a payload of this type holds; a dash where there is nothing in it.

@@ -18,4 +18,3 @@ pub use reading::survey;
 pub use report::write_connection;
 pub use seatmelon_connections::Connection;
 pub use seatmelon_lines::write_time;
-pub use seatmelon_packets::name_of;

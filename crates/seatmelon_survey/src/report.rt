@@ -4,9 +4,10 @@ ghost use Rattle.rasta_pcap.specs.Devices.{AsWritten};
 use crate::findings::Survey;
 use crate::link_types::write_other_link_type;
 use rasta_pcap::{Fault, Sink};
+use rasta_pdu::Kind;
 use seatmelon_connections::{ChannelCounts, Connection, NumberCounts, Party};
 use seatmelon_lines::{numbered, parts, write_parts, write_parts_if, write_words};
-use seatmelon_packets::{FitCount, KINDS, Lengths, name_of};
+use seatmelon_packets::{FitCount, Lengths};
 
 /// Writes how much was read.
 pub fn write_summary<W: Sink>(writer: &mut W, survey: &Survey) -> Result<(), Fault>
@@ -258,12 +259,12 @@ fn write_lengths<W: Sink>(writer: &mut W, lengths: &Lengths) -> Result<(), Fault
 fn write_kinds<W: Sink>(writer: &mut W, name: &'static str, party: &Party) -> Result<(), Fault>
     ensures written { AsWritten result (W.failure_count writer.old) (W.failure_count writer.new) }
 {
-    for kind in KINDS {
+    for kind in Kind::ALL {
         let count = party.kinds.count(kind);
         write_parts_if(
             writer,
             count > 0,
-            &parts!["  ", name, " sent ", name_of(kind), ": ", count, "\n"],
+            &parts!["  ", name, " sent ", kind.name(), ": ", count, "\n"],
         )?;
     }
     Ok(())

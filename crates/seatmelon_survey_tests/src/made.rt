@@ -1,7 +1,6 @@
 //! Made records, for tests.
 use rasta_draws::Draws;
 use rasta_pdu::{Body, Channel, Endpoint, Kind, Params, PduParts, Side, encode};
-use seatmelon_packets::KINDS;
 use std::alloc::Global;
 
 // The registers that MD4 itself begins with.
@@ -48,7 +47,7 @@ impl MadePdu {
             receiver,
             code_length: draws.pick(&[0, 8, 16])?,
             check_length: draws.pick(&[0, 2, 4])?,
-            kind: draws.pick(&KINDS)?,
+            kind: draws.pick(&Kind::ALL)?,
             number: draws.below(4),
             message_length: draws.below(40) as usize,
         })

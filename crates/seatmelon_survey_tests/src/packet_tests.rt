@@ -6,9 +6,9 @@ use byteorder::{ByteOrder, LittleEndian};
 use rasta_draws::Draws;
 use rasta_pcap::CaptureTime;
 use rasta_pdu::Kind;
-use rasta_udp::{Channel, Record, datagram};
+use rasta_udp::{Channel, Record, datagram, route_in};
 use seatmelon_packets::{
-    Features, Fit, Fits, Offer, Packet, Recognizer, Trials, Way, features_by, packet_in, route_in,
+    Features, Fit, Fits, Offer, Packet, Recognizer, Trials, Way, features_by, packet_in,
 };
 use std::alloc::Global;
 

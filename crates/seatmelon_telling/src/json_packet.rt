@@ -5,12 +5,12 @@ ghost use Rattle.rasta_pcap.specs.Fault.{write_failed};
 use crate::code_lengths::write_code_lengths;
 use crate::json_places::{write_hex_if, write_number_if, write_place, write_sighting_if};
 use crate::layout::layout_of;
-use crate::packet_text::{kind_name, shown_length};
+use crate::packet_text::{payload_and_codes, shown_length, type_name};
 use rasta_pcap::{Fault, Sink};
-use rasta_pdu::Pdu;
+use rasta_pdu::{Fields, Pdu};
 use seatmelon_account::{
-    Codes, Crossed, CutMessage, Differences, Fields, FirstCopy, Gap, Layout, Numbers,
-    RefusedPacket, Trouble, payload_and_codes,
+    Codes, Crossed, CutMessage, Differences, FirstCopy, Gap, Layout, Numbers, RefusedPacket,
+    Trouble,
 };
 use seatmelon_packets::Fits;
 use seatmelon_reading::Sighting;
@@ -26,11 +26,14 @@ fn write_field<W: Sink>(writer: &mut W, key: &'static str, number: Option<u32>) 
 }
 
 // Writes the name of a type, or null.
-fn write_type_name<W: Sink>(writer: &mut W, kind: Option<u32>) -> Result<(), Fault>
+fn write_type_name<W: Sink>(writer: &mut W, number: Option<u16>) -> Result<(), Fault>
     ensures err { IfErr result (λ f. f ≡ write_failed) }
 {
-    match kind {
-        Some(kind) => write_parts(writer, &parts![",\"type_name\":\"", kind_name(kind), "\""]),
+    match number {
+        Some(number) => write_parts(
+            writer,
+            &parts![",\"type_name\":\"", type_name(number), "\""],
+        ),
         None => write_words(writer, ",\"type_name\":null"),
     }
 }
@@ -40,12 +43,12 @@ fn write_fields<W: Sink>(writer: &mut W, fields: &Fields) -> Result<(), Fault>
     ensures err { IfErr result (λ f. f ≡ write_failed) }
 {
     write_words(writer, "{\"type\":")?;
-    write_number_if(writer, fields.kind)?;
-    write_type_name(writer, fields.kind)?;
+    write_number_if(writer, fields.type_number.map(u32::from))?;
+    write_type_name(writer, fields.type_number)?;
     let numbers = [
-        ("length_field", fields.length),
+        ("length_field", fields.length.map(u32::from)),
         ("redundancy_number", fields.number),
-        ("safety_length_field", fields.safety_length),
+        ("safety_length_field", fields.safety_length.map(u32::from)),
         ("receiver", fields.receiver),
         ("sender", fields.sender),
         ("sn", fields.sn),
@@ -236,7 +239,7 @@ fn write_cut_message<W: Sink>(writer: &mut W, cut: Option<CutMessage>) -> Result
     write_words(writer, "{\"at\":")?;
     write_long(writer, cut.at as u64)?;
     write_words(writer, ",\"length\":")?;
-    write_number_if(writer, cut.len)?;
+    write_number_if(writer, cut.len.map(u32::from))?;
     write_words(writer, ",\"left\":")?;
     write_long(writer, cut.left as u64)?;
     write_words(writer, "}")
@@ -367,7 +370,7 @@ fn write_pdu<W: Sink>(writer: &mut W, pdu: &Pdu<'_>) -> Result<(), Fault>
             "{\"type\":",
             kind,
             ",\"type_name\":\"",
-            kind_name(u32::from(kind)),
+            type_name(kind),
             "\",\"redundancy_number\":",
             pdu.number(),
             ",\"sn\":",

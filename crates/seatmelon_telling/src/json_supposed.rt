@@ -8,7 +8,6 @@ use crate::json_places::write_place;
 use crate::supposed::{MISSED, REACHED_ELSE, place_at};
 use rasta_pcap::{Fault, Sink};
 use seatmelon_account::{Account, Hypothesis};
-use seatmelon_packets::name_of;
 use seatmelon_reading::Sighting;
 use seatmelon_suppose::{Filled, Filling, Supposed, Tried};
 use seatmelon_text::json::write_sentence;
@@ -32,7 +31,7 @@ fn write_pdu<W: Sink>(writer: &mut W, packets: &[Sighting], pdu: &Supposed) -> R
             ",\"type\":",
             number,
             ",\"type_name\":\"",
-            name_of(pdu.fields.kind),
+            pdu.fields.kind.name(),
             "\",\"sn\":",
             pdu.fields.sn
         ],
@@ -97,7 +96,7 @@ fn write_way<W: Sink>(writer: &mut W, packets: &[Sighting], way: &Tried) -> Resu
             "{\"type\":",
             number,
             ",\"type_name\":\"",
-            name_of(way.kind),
+            way.kind.name(),
             "\",\"explained_before\":"
         ],
     )?;

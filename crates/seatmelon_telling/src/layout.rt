@@ -3,15 +3,20 @@ ghost use Rattle.std.specs.Prelude.{◌≡◌, IfErr};
 ghost use Rattle.rasta_pcap.specs.Fault.{write_failed};
 
 use rasta_pcap::{Fault, Sink};
+use rasta_pdu::Kind;
 use seatmelon_account::{CutMessage, Layout};
 use seatmelon_text::{Part, parts, write_parts, write_words};
 
 /// What a type has as its payload.
-pub fn layout_of(kind: u32) -> &'static str {
+pub fn layout_of(kind: Option<Kind>) -> &'static str {
     match kind {
-        6200 | 6201 => "14 bytes, which begin with a version of four digits",
-        6216 => "4 bytes",
-        6240 | 6241 => "one or more messages, each after its length in 2 bytes, and nothing else",
+        Some(Kind::ConnectionRequest | Kind::ConnectionResponse) => {
+            "14 bytes, which begin with a version of four digits"
+        }
+        Some(Kind::DisconnectionRequest) => "4 bytes",
+        Some(Kind::Data | Kind::RetransmittedData) => {
+            "one or more messages, each after its length in 2 bytes, and nothing else"
+        }
         _ => "none",
     }
 }

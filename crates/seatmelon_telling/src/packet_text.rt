@@ -3,9 +3,9 @@ ghost use Rattle.std.specs.Prelude.{◌≡◌, IfErr};
 ghost use Rattle.rasta_pcap.specs.Fault.{write_failed};
 
 use rasta_pcap::{Fault, Sink};
-use rasta_pdu::{Kind, Pdu};
-use seatmelon_account::{Codes, Difference, Fields, FirstCopy, payload_and_codes};
-use seatmelon_packets::name_of;
+use rasta_pdu::layout::PAYLOAD_AT;
+use rasta_pdu::{Fields, Kind, Pdu};
+use seatmelon_account::{Codes, Difference, FirstCopy};
 use seatmelon_text::{Part, parts, write_parts, write_words};
 
 // Writes a field as a line.
@@ -15,29 +15,27 @@ fn write_field<W: Sink>(writer: &mut W, name: &str, n: u32) -> Result<(), Fault>
     write_parts(writer, &parts!["  ", name, ": ", n, "\n"])
 }
 
-/// The name of a type.
-pub fn kind_name(number: u32) -> &'static str {
-    match number {
-        6200 => name_of(Kind::ConnectionRequest),
-        6201 => name_of(Kind::ConnectionResponse),
-        6212 => name_of(Kind::RetransmissionRequest),
-        6213 => name_of(Kind::RetransmissionResponse),
-        6216 => name_of(Kind::DisconnectionRequest),
-        6220 => name_of(Kind::Heartbeat),
-        6240 => name_of(Kind::Data),
-        6241 => name_of(Kind::RetransmittedData),
-        _ => "none of the eight types",
+/// The name of the type with this number.
+pub fn type_name(number: u16) -> &'static str {
+    match Kind::of(number) {
+        Some(kind) => kind.name(),
+        None => "none of the eight types",
     }
 }
 
-// Writes a type as a line.
-fn write_kind<W: Sink>(writer: &mut W, number: u32) -> Result<(), Fault>
+// Writes the number of a type as a line.
+fn write_type<W: Sink>(writer: &mut W, number: u16) -> Result<(), Fault>
     ensures err { IfErr result (λ f. f ≡ write_failed) }
 {
     write_parts(
         writer,
-        &parts!["  type: ", number, ", ", kind_name(number), "\n"],
+        &parts!["  type: ", number, ", ", type_name(number), "\n"],
     )
+}
+
+/// The payload of a datagram and the codes after it.
+pub fn payload_and_codes(datagram: &[u8]) -> &[u8] {
+    &datagram[datagram.len().min(PAYLOAD_AT)..]
 }
 
 /// How many bytes are shown that a datagram has.
@@ -50,9 +48,12 @@ fn write_fields<W: Sink>(writer: &mut W, fields: &Fields) -> Result<(), Fault>
     ensures err { IfErr result (λ f. f ≡ write_failed) }
 {
     let lines = [
-        ("length field", fields.length),
+        ("length field", fields.length.map(u32::from)),
         ("redundancy number", fields.number),
-        ("length field of the safety layer", fields.safety_length),
+        (
+            "length field of the safety layer",
+            fields.safety_length.map(u32::from),
+        ),
         ("receiver", fields.receiver),
         ("sender", fields.sender),
         ("SN", fields.sn),
@@ -74,8 +75,8 @@ pub fn write_datagram<W: Sink>(writer: &mut W, datagram: &[u8]) -> Result<(), Fa
 {
     let fields = Fields::of(datagram);
     write_field(writer, "bytes of the datagram", shown_length(datagram))?;
-    if let Some(number) = fields.kind {
-        write_kind(writer, number)?;
+    if let Some(number) = fields.type_number {
+        write_type(writer, number)?;
     }
     write_fields(writer, &fields)?;
     let rest = payload_and_codes(datagram);
@@ -121,7 +122,7 @@ fn write_messages<W: Sink>(writer: &mut W, pdu: &Pdu<'_>) -> Result<(), Fault>
 pub fn write_pdu<W: Sink>(writer: &mut W, pdu: &Pdu<'_>) -> Result<(), Fault>
     ensures err { IfErr result (λ f. f ≡ write_failed) }
 {
-    write_kind(writer, u32::from(pdu.kind().number()))?;
+    write_type(writer, pdu.kind().number())?;
     write_field(writer, "redundancy number", pdu.number())?;
     write_field(writer, "SN", pdu.sn())?;
     write_field(writer, "CS", pdu.cs())?;

@@ -97,7 +97,7 @@ fn write_ids<W: Sink>(writer: &mut W, receiver: u32, sender: u32) -> Result<(), 
 }
 
 // Writes which types there are, and which one was found.
-fn write_type_due<W: Sink>(writer: &mut W, found: u32) -> Result<(), Fault>
+fn write_type_due<W: Sink>(writer: &mut W, found: u16) -> Result<(), Fault>
     ensures err { IfErr result (λ f. f ≡ write_failed) }
 {
     write_parts(

@@ -8,7 +8,6 @@ use crate::page::place_of;
 use rasta_pcap::{Fault, Sink};
 use rasta_pdu::Kind;
 use seatmelon_account::{Account, Direction, Extent, Hypothesis};
-use seatmelon_packets::name_of;
 use seatmelon_reading::Sighting;
 use seatmelon_suppose::{Filled, Filling, Gap, Supposed, Tried};
 use seatmelon_text::{parts, write_parts, write_words};
@@ -124,7 +123,7 @@ fn write_values<W: Sink>(writer: &mut W, fillings: &[Filling], pdu: &Supposed) -
             "    ",
             number,
             ", ",
-            name_of(pdu.fields.kind),
+            pdu.fields.kind.name(),
             messages_of(pdu.fields.kind),
             ": CS ",
             pdu.fields.cs,
@@ -238,7 +237,7 @@ fn write_tried<W: Sink>(writer: &mut W, packets: &[Sighting], tried: &Tried) -> 
             "    ",
             number,
             ", ",
-            name_of(tried.kind),
+            tried.kind.name(),
             ": explains all packets before "
         ],
     )?;

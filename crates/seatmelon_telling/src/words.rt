@@ -3,7 +3,8 @@ use crate::blocks::{block_refused, hint_on_block};
 use crate::frames::{hint_on_frames, meaning_of_frames};
 use crate::gap::{Reason, reason_of};
 use rasta_pcap::Fault;
-use seatmelon_account::{Account, Fields, Gap, Refusal, RefusedPacket, Subject, Trouble};
+use rasta_pdu::Fields;
+use seatmelon_account::{Account, Gap, Refusal, RefusedPacket, Subject, Trouble};
 use seatmelon_capture::FileHeader;
 use seatmelon_reading::CodeCount;
 

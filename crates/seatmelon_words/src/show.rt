@@ -3,7 +3,6 @@ use clap::error::ErrorKind;
 use clap::{Arg, ArgMatches, Command, Error};
 use rasta_pdu::Kind;
 use seatmelon_commands::Showing;
-use seatmelon_packets::{KINDS, name_of};
 use std::alloc::{AllocError, Global};
 
 const STATUSES: &str = "\
@@ -69,12 +68,12 @@ fn short_name_of(kind: Kind) -> &'static str {
 fn names(word: &str, kind: Kind) -> bool {
     word.parse::<u16>() == Ok(kind.number())
         || word.eq_ignore_ascii_case(short_name_of(kind))
-        || word.eq_ignore_ascii_case(name_of(kind))
+        || word.eq_ignore_ascii_case(kind.name())
 }
 
 // The type that a word names.
 fn kind_of(word: &str) -> Option<Kind> {
-    KINDS.into_iter().find(|kind| names(word, *kind))
+    Kind::ALL.into_iter().find(|kind| names(word, *kind))
 }
 
 // The types of a list with commas between them; none where a word names no type.

@@ -6,7 +6,8 @@ use Rattle.rasta_check.proofs.Prelude.{InSequence, ResentInSequence, Gap, GapInR
 use Rattle.rasta_check.proofs.Prelude.{is_flowing, carries_unit, first_that_holds, is_valid, effect, after_take}
 use Rattle.rasta_pdu.specs.declared.kind.Kind.TheVariants.{Heartbeat}
 use Rattle.rasta_end.specs.declared.phase.Phase.TheVariants.{Down}
-use Rattle.rasta_end.specs.State.{is_active, is_timed, is_heartbeat_or_data}
+use Rattle.rasta_end.specs.State.{is_active}
+use Rattle.rasta_pdu.specs.Pdu.{is_timed, is_heartbeat_or_data}
 use Rattle.rasta_end.specs.TakeRule.{take_rows, is_in, is_ahead, take_row, effect_by, accept, enter, hand_up}
 
 -- what a row knows of side, phase and type, and of the tests: next in sequence, ahead, a valid CS

@@ -1,19 +1,15 @@
-use Rattle.std.proofs.Common.{arith}
+use Rattle.std.proofs.Common.{arith, length, not, ap, sym, ◌∙◌}
+use Rattle.std.proofs.lemmas.Bool.{eqb-true}
 use Rattle.std.proofs.lemmas.Bool.Decides.{nat_tests}
-use Rattle.rasta_pdu.proofs.Payloads.{filled_more, are_messages-is}
+use Rattle.rasta_pdu.proofs.Payloads.{are_messages-empty, are_messages-is}
 use Rattle.rasta_pdu.proofs.messages.are_messages.Goals as goal
-
-pub loop-after-preserved : goal.loop-after-preserved
-loop-after-preserved c =
-    let more = filled_more c.loop-after.rest.now c.in-Some.ensures.0 in
-    rw (c.in-Some.ensures.2) (omega (arith, c.loop-after.invariant))
 
 pub returns-then-not-is_empty : goal.returns-then-not-is_empty
 returns-then-not-is_empty c =
-    let is = are_messages-is c.args.payload.now c.loop-after.rest.now c.in_default.ensures c.loop-after.invariant in
+    let is = are_messages-is c.args.payload.now c.behind_messages.result.now c.behind_messages.ensures.lengths in
     grind (arith, nat_tests, is)
 
 pub returns-else-not-is_empty : goal.returns-else-not-is_empty
 returns-else-not-is_empty c =
-    let is = are_messages-is c.args.payload.now c.loop-after.rest.now c.in_default.ensures c.loop-after.invariant in
-    grind (arith, nat_tests, is)
+    let none = are_messages-empty c.args.payload.now (eqb-true (length c.args.payload.now) 0 (sym c.if-not-is_empty.ensures)) in
+    ap not c.if-not-is_empty.false ∙ sym none

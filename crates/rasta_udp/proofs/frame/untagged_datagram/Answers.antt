@@ -1,6 +1,6 @@
 use Rattle.std.proofs.Common.{rules}
 use Rattle.rasta_udp.specs.Frame.{found_by}
-use Rattle.rasta_udp.proofs.frame.untagged.Goals as goal
+use Rattle.rasta_udp.proofs.frame.untagged_datagram.Goals as goal
 
 pub returns-then-length-lt-UDP_HEADER : goal.returns-then-length-lt-UDP_HEADER
 unfolding found_by
