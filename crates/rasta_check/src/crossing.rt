@@ -1,13 +1,13 @@
 //! What each side sent, by a capture.
 ghost use Rattle.std.specs.Prelude.{◌≡◌, [], ◌∷◌, ◌++◌, List, map, length, option_map, slice_get, None, Some, Ok, Err, MatchOption, MatchResult, OnOk, OnErr, IfOk, ◌⊎◌};
 ghost use Rattle.rasta_pcap.specs.Fault.{no_memory};
-ghost use Rattle.rasta_udp.specs.Frame.{Packet, packet_in, packet_of};
+ghost use Rattle.rasta_udp.specs.Frame.{Packet, packet_of};
 ghost use Rattle.rasta_check.specs.Capture.SentLists.{FirstCopy, Spells, number_in_bytes};
 ghost use Rattle.rasta_check.specs.Capture.PacketFaults.{packet_fault};
 ghost use Rattle.rasta_pdu.specs.Pdu.{RedundancyPdu, decode_of};
 ghost use Rattle.rasta_check.specs.Capture.Lists.{copy_of};
 ghost use Rattle.rasta_check.specs.Capture.Crossing.{Crossing, IsCrossing, sent_by, nothing_crossed};
-ghost use Rattle.rasta_check.specs.Capture.Reading.{with_packet, sent_after, after_packet, after_frame, after_record};
+ghost use Rattle.rasta_check.specs.Capture.Reading.{with_packet, sent_after, after_packet, after_record};
 ghost use Rattle.std.specs.Prelude.{◌<◌, ◌≤◌, IfSome, bytes_eq, nat_lt, not, ◌&&◌, ◌||◌};
 ghost use Rattle.rasta_check.specs.Capture.PacketFaults.{is_next_number};
 ghost use Rattle.rasta_check.specs.Capture.SentLists.{IsRecorded};
@@ -18,8 +18,7 @@ ghost use Rattle.rasta_check.specs.Internals.Packets.{with_new};
 use crate::map_list::MapList;
 use crate::sent_list::SentList;
 use rasta_pcap::{Fault, Record, Side};
-use rasta_pdu::{Params, Pdu, decode};
-use rasta_udp::{Datagram, datagram};
+use rasta_pdu::{Datagram, Params, Pdu, decode, recorded_packet};
 use std::alloc::{AllocError, Global};
 use std::marker::Model;
 
@@ -256,30 +255,16 @@ impl<'a> Sent<'a> {
         Ok(())
     }
 
-    // Adds what a record of the window holds.
-    fn add_frame(&mut self, record: &Record<'a>) -> Result<(), Fault>
-        ensures { MatchResult result
-            (λ _. after_frame self.old «record».now.number (packet_in self.old.params.channels «record».now.bytes.now) ≡ Ok self.new)
-            (λ f. (f ≡ no_memory) ⊎ (after_frame self.old «record».now.number (packet_in self.old.params.channels «record».now.bytes.now) ≡ Err f)) }
-    {
-        match datagram(record, self.params.channel()) {
-            Ok(None) => Ok(()),
-            Ok(Some(found)) => self.add_packet(record.number, found),
-            Err(fault) => Err(Fault::at(fault.number, record.number)),
-        }
-    }
-
-    // Adds what a record holds, unless it stands before the window.
+    // Adds the packet of a record, if it holds one.
     #[tactic(auto, unfolding(crate::specs::Capture::Reading::after_record))]
     pub(crate) fn add_record(&mut self, record: &Record<'a>) -> Result<(), Fault>
         ensures { MatchResult result
             (λ _. after_record self.old («record».now.number, «record».now.bytes.now) ≡ Ok self.new)
             (λ f. (f ≡ no_memory) ⊎ (after_record self.old («record».now.number, «record».now.bytes.now) ≡ Err f)) }
     {
-        if record.number < self.params.first_record() {
-            Ok(())
-        } else {
-            self.add_frame(record)
+        match recorded_packet(&self.params, record)? {
+            Some(found) => self.add_packet(record.number, found),
+            None => Ok(()),
         }
     }
 }

@@ -1,14 +1,14 @@
 //! What each side sent, with the bytes of first copies alone.
 ghost use Rattle.std.specs.Prelude.{◌≡◌, ℕ, ◌∷◌, ◌++◌, [], ◌<◌, length, map, is_some, is_none, option_map, slice_get, None, Some, Ok, Err, IfSome, MatchOption, MatchResult, OnOk, OnErr, ◌⊎◌, nat_lt, not, ◌&&◌, ◌||◌, bytes_eq};
 ghost use Rattle.rasta_pcap.specs.Fault.{no_memory};
-ghost use Rattle.rasta_udp.specs.Frame.{Packet, packet_in, packet_of};
+ghost use Rattle.rasta_udp.specs.Frame.{Packet, packet_of};
 ghost use Rattle.rasta_pdu.specs.Pdu.{RedundancyPdu, decode_of, redundancy_bytes};
 ghost use Rattle.rasta_check.specs.Capture.SentLists.{FirstCopy, Spells, number_in_bytes};
 ghost use Rattle.rasta_check.specs.Capture.PacketFaults.{is_next_number, packet_fault};
 ghost use Rattle.rasta_check.specs.Internals.Datagrams.{kept_by};
 ghost use Rattle.rasta_check.specs.Capture.Lists.{copy_of, position_of_number, position_of_place};
 ghost use Rattle.rasta_check.specs.Capture.Crossing.{Crossing, IsCrossing, sent_by, nothing_crossed};
-ghost use Rattle.rasta_check.specs.Capture.Reading.{with_packet, after_packet, after_frame, after_record, packet_at, packet_found};
+ghost use Rattle.rasta_check.specs.Capture.Reading.{with_packet, after_packet, after_record, packet_at};
 ghost use Rattle.rasta_check.specs.Capture.Passages.{passage_in};
 ghost use Rattle.rasta_check.specs.Internals.Stored.{HasPosition, IsStore, crossing_by, first_copy_bytes};
 ghost use Rattle.rasta_check.specs.Model.Theorem.{most_packets};
@@ -20,8 +20,7 @@ use crate::datagrams::Datagrams;
 use crate::passage::Passage;
 use crate::span_list::SpanList;
 use rasta_pcap::{Fault, Record, Side};
-use rasta_pdu::{Params, Pdu, decode, read_decoded};
-use rasta_udp::{Datagram, datagram};
+use rasta_pdu::{Datagram, Params, Pdu, decode, read_decoded, recorded_packet};
 use std::alloc::{AllocError, Global};
 use std::marker::Model;
 
@@ -335,28 +334,7 @@ impl Store {
         Ok(())
     }
 
-    // Adds what a record of the window holds, and says where its packet crossed.
-    fn add_frame(&mut self, record: &Record<'_>) -> Result<Option<Passage>, Fault>
-        ensures value { MatchResult result
-            (λ o. (after_frame self.old «record».now.number (packet_in self.old.params.channels «record».now.bytes.now) ≡ Ok self.new)
-            × (o ≡ passage_in (packet_found (packet_in self.old.params.channels «record».now.bytes.now))))
-            (λ f. (f ≡ no_memory) ⊎ (after_frame self.old «record».now.number (packet_in self.old.params.channels «record».now.bytes.now) ≡ Err f)) }
-        ensures kept { OnErr result (self.new ≡ self.old) }
-    {
-        match datagram(record, self.params.channel()) {
-            Ok(None) => Ok(None),
-            Ok(Some(found)) => {
-                self.add_packet(record.number, &found)?;
-                Ok(Some(Passage {
-                    side: found.side,
-                    channel: found.channel,
-                }))
-            }
-            Err(fault) => Err(Fault::at(fault.number, record.number)),
-        }
-    }
-
-    // Adds what a record holds, unless it stands before the window, and says where its packet crossed.
+    // Adds the packet of a record, and says where it crossed, if it holds one.
     #[tactic(auto, unfolding(crate::specs::Capture::Reading::after_record))]
     pub(crate) fn add_record(&mut self, record: &Record<'_>) -> Result<Option<Passage>, Fault>
         ensures value { MatchResult result
@@ -365,10 +343,10 @@ impl Store {
             (λ f. (f ≡ no_memory) ⊎ (after_record self.old («record».now.number, «record».now.bytes.now) ≡ Err f)) }
         ensures kept { OnErr result (self.new ≡ self.old) }
     {
-        if record.number < self.params.first_record() {
-            Ok(None)
-        } else {
-            self.add_frame(record)
-        }
+        let Some(found) = recorded_packet(&self.params, record)? else {
+            return Ok(None);
+        };
+        self.add_packet(record.number, &found)?;
+        Ok(Some(Passage::of(&found)))
     }
 }

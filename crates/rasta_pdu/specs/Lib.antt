@@ -7,4 +7,6 @@ pub mod Messages
 pub mod Lengths
 pub mod Pdu
 pub mod Fields
+pub mod Decoding
+pub mod Records
 pub mod Parts

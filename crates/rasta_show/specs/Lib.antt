@@ -3,4 +3,3 @@ pub mod Codes
 pub mod Show
 pub mod Runs
 pub mod Shown
-pub mod Decoding

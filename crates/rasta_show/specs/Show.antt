@@ -1,12 +1,12 @@
 -- What `show` writes of a capture.
-use Rattle.std.specs.Prelude.{ℕ, ◌+◌, List, [], ◌∷◌, ◌++◌, length, Option, Some, None, Result, Ok, Err, nat_lt}
-use Rattle.std.specs.Prelude.{if◌then◌else◌}
+use Rattle.std.specs.Prelude.{ℕ, ◌+◌, List, [], ◌∷◌, ◌++◌, length, Option, Some, None, Result, Ok, Err}
 use Rattle.rasta_pcap.specs.declared.fault.Fault.{Fault}
-use Rattle.rasta_pcap.specs.Fault.{fault_at, fault_of_end}
+use Rattle.rasta_pcap.specs.Fault.{fault_of_end}
 use Rattle.rasta_pcap.specs.Capture.{Numbered, Reading, reading_of}
-use Rattle.rasta_udp.specs.Frame as udp
+use Rattle.rasta_udp.specs.Frame.{Packet}
 use Rattle.rasta_pdu.specs.Params.{Parameters}
 use Rattle.rasta_pdu.specs.Pdu.{RedundancyPdu, code_of, decode_of}
+use Rattle.rasta_pdu.specs.Records.{recorded_packet}
 use Rattle.rasta_show.specs.Lines.{ShownPacket, packet_line, packets_line, refused_line}
 
 -- what a record is: before the window or of no channel, a packet of the connection, or refused
@@ -16,7 +16,7 @@ pub data Sight : Type 0 where
   refused : Fault → Sight
 
 -- a PDU's fault speaks of its sender
-abbrev pub sight_of_pdu : Parameters → ℕ → udp.Packet → Result RedundancyPdu Fault → Sight
+abbrev pub sight_of_pdu : Parameters → ℕ → Packet → Result RedundancyPdu Fault → Sight
 sight_of_pdu p number d (Ok pdu) = packet (record {
   record_number = number;
   channel = d.channel;
@@ -26,16 +26,13 @@ sight_of_pdu p number d (Ok pdu) = packet (record {
 })
 sight_of_pdu p number d (Err f) = refused (fault_of_end f.number number d.side)
 
--- a frame's fault speaks of no end
-abbrev pub sight_of_frame : Parameters → ℕ → Result (Option udp.Packet) Fault → Sight
-sight_of_frame p number (Ok None) = passed_over
-sight_of_frame p number (Ok (Some d)) = sight_of_pdu p number d (decode_of p d.side d.payload)
-sight_of_frame p number (Err f) = refused (fault_at f.number number)
+abbrev pub sight_of_packet : Parameters → ℕ → Result (Option Packet) Fault → Sight
+sight_of_packet p number (Ok None) = passed_over
+sight_of_packet p number (Ok (Some d)) = sight_of_pdu p number d (decode_of p d.side d.payload)
+sight_of_packet p number (Err f) = refused f
 
--- records before the window are not judged
 unfoldable pub sight_of : Parameters → Numbered → Sight
-sight_of p r = if nat_lt r.0 p.first_record then passed_over
-    else sight_of_frame p r.0 (udp.packet_in p.channels r.1)
+sight_of p r = sight_of_packet p r.0 (recorded_packet p r)
 
 -- the packets up to the first fault, and that fault
 pub record Shown : Type 0 where

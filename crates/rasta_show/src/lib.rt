@@ -1,7 +1,6 @@
 //! The PDUs of a capture as text: one exact line for each, and the lines that other texts are made of.
 #![tactic(auto)]
 
-mod decoder;
 mod digits;
 mod messages;
 mod packet;

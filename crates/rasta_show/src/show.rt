@@ -1,5 +1,5 @@
 //! The text of `show`.
-ghost use Rattle.std.specs.Prelude.{◌≡◌, IfOk, IfErr, OnErr, nat_le, nat_lt};
+ghost use Rattle.std.specs.Prelude.{◌≡◌, IfOk, IfErr, OnErr, nat_le};
 ghost use Rattle.rasta_pcap.specs.Fault.{not_pcap};
 ghost use Rattle.rasta_pcap.specs.Devices.{Writes, AsWritten};
 ghost use Rattle.rasta_pcap.specs.Extent.{ReadsUpToRecord};
@@ -7,21 +7,19 @@ ghost use Rattle.rasta_pcap.specs.Stream.{order_in, progress_of};
 ghost use Rattle.rasta_pcap.specs.declared.stream.Progress.TheVariants.{Reading};
 ghost use Rattle.rasta_pdu.specs.Params.{AreParameters};
 ghost use Rattle.rasta_pdu.specs.Pdu.{decode_of};
-ghost use Rattle.rasta_show.specs.Show.{show_status, show_text, sight_of, sight_of_frame, sight_of_pdu};
+ghost use Rattle.rasta_show.specs.Show.{show_status, show_text, sight_of, sight_of_pdu};
 ghost use Rattle.rasta_show.specs.Lines.{refused_line};
 ghost use Rattle.rasta_show.specs.Shown.{sight_in, status_left, text_left};
-ghost use Rattle.rasta_udp.specs.Frame.{packet_in, packet_of};
+ghost use Rattle.rasta_udp.specs.Frame.{packet_of};
 ghost use Rattle.rasta_show.specs.Runs.{GoesUpToRecord, IsRunFault, WritesBeginning, WritesText};
 
-use crate::decoder::Decoder;
 use crate::packet::write_packet;
 use crate::shown_packet::ShownPacket;
 use crate::texts::{count_line, refusal_line};
 use rasta_line::Line;
 use rasta_pcap::stream::RecordReader;
 use rasta_pcap::{Record, write_all};
-use rasta_pdu::{Fault, Params, Sink, Source};
-use rasta_udp::{Datagram, datagram};
+use rasta_pdu::{Datagram, Decoder, Fault, Params, Sink, Source, recorded_packet};
 use std::alloc::Global;
 
 /// What a record is: of no interest, a packet of the connection, or refused.
@@ -37,13 +35,6 @@ pub fn is_refusal(fault: Fault) -> bool
     ensures { result ≡ nat_le not_pcap fault.number }
 {
     fault.number >= Fault::NOT_PCAP
-}
-
-// Records before the window are not judged.
-fn is_before_window(params: &Params, number: u32) -> bool
-    ensures { result ≡ nat_lt number params.now.first_record }
-{
-    number < params.first_record()
 }
 
 // What a datagram of the connection shows. A PDU's fault speaks of its sender.
@@ -68,30 +59,17 @@ fn sight_of_datagram<'a>(decoder: &mut Decoder<'_>, number: u32, found: Datagram
     }
 }
 
-// What a record of the window shows. A frame's fault speaks of no end.
-fn sight_in_window<'a>(params: &Params, decoder: &mut Decoder<'_>, record: &Record<'a>) -> Seen<'a>
-    requires { decoder.old ≡ params.now }
-    ensures sight { sight_in result ≡ (sight_of_frame params.now «record».now.number
-        (packet_in params.now.channels «record».now.bytes.now)) }
-    ensures params { decoder.new ≡ decoder.old }
-{
-    match datagram(record, params.channel()) {
-        Ok(None) => Seen::PassedOver,
-        Ok(Some(found)) => sight_of_datagram(decoder, record.number, found),
-        Err(fault) => Seen::Refused(Fault::at(fault.number, record.number)),
-    }
-}
-
+// What a record shows.
 #[tactic(auto, unfolding(crate::specs::Show::sight_of))]
 fn sight<'a>(params: &Params, decoder: &mut Decoder<'_>, record: &Record<'a>) -> Seen<'a>
     requires { decoder.old ≡ params.now }
     ensures sight { sight_in result ≡ (sight_of params.now («record».now.number, «record».now.bytes.now)) }
     ensures params { decoder.new ≡ decoder.old }
 {
-    if is_before_window(params, record.number) {
-        Seen::PassedOver
-    } else {
-        sight_in_window(params, decoder, record)
+    match recorded_packet(params, record) {
+        Ok(None) => Seen::PassedOver,
+        Ok(Some(found)) => sight_of_datagram(decoder, record.number, found),
+        Err(fault) => Seen::Refused(fault),
     }
 }
 

@@ -1,6 +1,6 @@
 //! The datagram in a captured frame.
 ghost use Rattle.std.specs.Prelude.{◌≡◌, ◌+◌, ◌≤◌, [], ◌∷◌, length, option_map, ◌||◌, nat_lt, ◌==◌};
-ghost use Rattle.rasta_udp.specs.Frame.{Direction, address_of, header_length_of, fields_of, has_addresses, has_known_addresses, goes, direction_of, map_found, packet_of, packet_at, untagged_of, packet_in};
+ghost use Rattle.rasta_udp.specs.Frame.{Direction, address_of, header_length_of, fields_of, has_addresses, has_known_addresses, goes, direction_of, map_found, packet_of, packet_at, untagged_of, packet_in, at_record};
 
 use crate::channel::{Channel, Datagram, Endpoint};
 use crate::fields::{header_length, is_tagged, u16_at, u32_at};
@@ -151,25 +151,38 @@ fn untagged_datagram<'a>(
     }))
 }
 
-/// The datagram of a channel that a record's frame holds, or `None` where it is of no channel.
-/// Channels are numbered from 1, in their order.
+/// The datagram of a channel that a frame holds, or `None` where it is of no channel. Channels are numbered
+/// from 1, in their order.
 ///
-/// One tag of IEEE 802.1Q and options of IPv4 are passed over, and what follows the datagram
-/// is no data. Refused, at place 0, by [`Fault::FRAGMENT`], [`Fault::BAD_UDP`] (a total length or a
-/// UDP length that can't be) and [`Fault::CUT_PACKET`] (not all of it was captured).
+/// One tag of IEEE 802.1Q and options of IPv4 are passed over, and what follows the datagram is no data.
+/// Refused, at place 0, by [`Fault::FRAGMENT`], [`Fault::BAD_UDP`] (a total length or a UDP length that can't
+/// be) and [`Fault::CUT_PACKET`] (not all of it was captured).
+#[inline(always)]
 #[tactic(auto, using(crate::proofs::Tags::packet_in_tagged, crate::proofs::Tags::packet_in_untagged))]
-pub fn datagram<'a>(
-    record: &Record<'a>,
-    channels: &[Channel],
-) -> Result<Option<Datagram<'a>>, Fault>
+pub fn datagram_in<'a>(frame: &'a [u8], channels: &[Channel]) -> Result<Option<Datagram<'a>>, Fault>
     requires { length channels.now ≤ 255 }
-    ensures { map_found packet_of result ≡ packet_in channels.now «record».now.bytes.now }
+    ensures { map_found packet_of result ≡ packet_in channels.now frame.now }
 {
-    let frame = record.bytes;
     if is_tagged(frame) {
         // Nothing of the first 12 bytes is read.
         untagged_datagram(&frame[TAG..], channels)
     } else {
         untagged_datagram(frame, channels)
+    }
+}
+
+/// The datagram of a channel in the frame of a record, as [`datagram_in`] finds it, but with the number of the
+/// record as the place of its fault.
+#[inline(always)]
+pub fn datagram<'a>(
+    record: &Record<'a>,
+    channels: &[Channel],
+) -> Result<Option<Datagram<'a>>, Fault>
+    requires { length channels.now ≤ 255 }
+    ensures { map_found packet_of result ≡ at_record «record».now.number (packet_in channels.now «record».now.bytes.now) }
+{
+    match datagram_in(record.bytes, channels) {
+        Ok(found) => Ok(found),
+        Err(fault) => Err(Fault::at(fault.number, record.number)),
     }
 }

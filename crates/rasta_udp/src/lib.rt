@@ -8,6 +8,6 @@ pub mod layout;
 mod route;
 
 pub use channel::{Channel, Datagram, Endpoint};
-pub use frame::datagram;
+pub use frame::{datagram, datagram_in};
 pub use rasta_pcap::{Fault, Record, Side, Sink, Source};
 pub use route::route_in;

@@ -12,9 +12,9 @@ use crate::trouble::{Trouble, trouble_of};
 use rasta_build::Obstacle;
 use rasta_cert::Certificate;
 use rasta_check::Store;
-use rasta_pcap::{CaptureTime, Fault, Record, Side};
+use rasta_pcap::{CaptureTime, Fault, Side};
 use rasta_pdu::{Kind, Params};
-use rasta_udp::{Datagram, datagram};
+use rasta_udp::{Datagram, datagram_in};
 use seatmelon_packets::{Fits, Trials, features_by};
 use seatmelon_reading::{CaptureRefusal, CodeCount};
 
@@ -78,14 +78,10 @@ pub struct Refusal<'a> {
 }
 
 // The datagram of a refused record, if it holds one of the recorded channels.
-fn datagram_in<'a>(params: &Params, refusal: &'a CaptureRefusal) -> Option<Datagram<'a>>
+fn refused_datagram<'a>(params: &Params, refusal: &'a CaptureRefusal) -> Option<Datagram<'a>>
     ensures { option_map packet_of result ≡ packet_refused params.now refusal.now }
 {
-    let record = Record {
-        number: refusal.fault.place,
-        bytes: &refusal.frame,
-    };
-    datagram(&record, params.channel()).ok()?
+    datagram_in(&refusal.frame, params.channel()).ok()?
 }
 
 // The lengths of the codes that a refused packet fits, if it is the first of all and they may be wrong.
@@ -108,7 +104,7 @@ fn packet_in<'a>(
 ) -> Option<RefusedPacket<'a>>
     ensures { TellsPacket params.now store.now refusal.now result }
 {
-    let packet = datagram_in(params, refusal)?;
+    let packet = refused_datagram(params, refusal)?;
     Some(RefusedPacket {
         sender: packet.side,
         channel: packet.channel,

@@ -97,7 +97,7 @@ or_false false b e = e
 -- ---- all connections
 
 foreign_held : (p : Parameters) (r : Numbered) → packet_in p.channels r.1 ≡ Ok None → is_held p r ≡ false
-foreign_held p r none = and_false _ _ (none_found (nat_lt r.0 p.first_record) (packet_in p.channels r.1) none)
+foreign_held p r none = and_false _ _ (none_found (nat_lt r.0 p.first_record) (packet_in p.channels r.1) r.0 none)
 
 module _ (old new : List Line) (ways : List Way) (r : Numbered) (same : params_of new ≡ params_of old) (taken : HaveTaken ways r.0 new) (names : NamesAll ways (params_of new) r.1) where
   none_held : TellsHeld false old new r → (records : List Captured) → r.0 ≡ suc (length records) → AreLines records old

@@ -8,11 +8,11 @@ use Rattle.rasta_pcap.specs.declared.fault.Fault.{Fault}
 use Rattle.rasta_pcap.specs.declared.time.CaptureTime.{CaptureTime}
 use Rattle.rasta_pcap.specs.Capture.{Numbered}
 use Rattle.rasta_pcap.specs.Captured.{Captured, numbered}
-use Rattle.rasta_udp.specs.Frame.{Packet, packet_in}
+use Rattle.rasta_udp.specs.Frame.{at_record, Packet, packet_in}
 use Rattle.rasta_pdu.specs.Params.{Parameters}
 use Rattle.rasta_check.specs.Capture.Building.{crossed_in}
 use Rattle.rasta_check.specs.Capture.Crossing.{Crossing}
-use Rattle.rasta_check.specs.Capture.Reading.{after_frame, after_record, then_crossing, packet_found}
+use Rattle.rasta_check.specs.Capture.Reading.{after_found, after_record, then_crossing, packet_found}
 use Rattle.rasta_check.proofs.Lists.{map_at}
 use Rattle.seatmelon_audit.specs.Lines.{AllBetween, AllTakeIn, AreBetween, AreLines, HaveTaken, IsBetween, IsLine, IsStep, IsStepAt, params_of}
 use Rattle.seatmelon_audit.specs.Ways.{IsNamed, NamesAll}
@@ -79,18 +79,20 @@ between_then a b c r time first second records q is next timed h = second record
 
 -- ---- all connections
 
-foreign_by : (b : Bool) (k : Crossing) (found : Result (Option Packet) Fault) (number : ℕ) → found ≡ Ok None → cond b (Ok k) (after_frame k number found) ≡ Ok k
+foreign_by : (b : Bool) (k : Crossing) (found : Result (Option Packet) Fault) (number : ℕ) → found ≡ Ok None
+    → after_found k number (cond b (Ok None) (at_record number found)) ≡ Ok k
 foreign_by true k found number e = refl
-foreign_by false k found number e = ap (after_frame k number) e
+foreign_by false k found number e = ap (λ (o : Result (Option Packet) Fault). after_found k number (at_record number o)) e
 
 foreign_record : (k : Crossing) (p : Parameters) (q : Captured) → k.params ≡ p → packet_in p.channels q.bytes ≡ Ok None → after_record k (numbered q) ≡ Ok k
 unfolding after_record
 foreign_record k p q same none = foreign_by (nat_lt q.number k.params.first_record) k (packet_in k.params.channels q.bytes) q.number
     (ap (λ (x : Parameters). packet_in x.channels q.bytes) same ∙ none)
 
-pub none_found : (b : Bool) (found : Result (Option Packet) Fault) → found ≡ Ok None → is_some (cond b None (packet_found found)) ≡ false
-none_found true found e = refl
-none_found false found e = ap (λ (o : Result (Option Packet) Fault). is_some (packet_found o)) e
+pub none_found : (b : Bool) (found : Result (Option Packet) Fault) (number : ℕ) → found ≡ Ok None
+    → is_some (packet_found (cond b (Ok None) (at_record number found))) ≡ false
+none_found true found number e = refl
+none_found false found number e = ap (λ (o : Result (Option Packet) Fault). is_some (packet_found (at_record number o))) e
 
 pub and_false : (a b : Bool) → b ≡ false → (a && b) ≡ false
 and_false true b e = e
@@ -108,7 +110,7 @@ foreign_line l records q next none h =
     (λ (inside : q.number ≤ p.last_record). crossed_inside p records q next inside ∙ ap (λ (s : Outcome). then_crossing s (λ (m : Crossing). after_record m (numbered q))) e
     ∙ foreign_record k p q l.recorded none)
     (less_or_not p.last_record q.number))
-    (and_false _ _ (none_found (nat_lt q.number p.first_record) (packet_in p.channels q.bytes) none)) h
+    (and_false _ _ (none_found (nat_lt q.number p.first_record) (packet_in p.channels q.bytes) q.number none)) h
 
 begin_between : (records : List Captured) (q : Captured) (lines : List Line) → q.number ≡ suc (length records) → AreLines records lines → AreBetween records q lines
 begin_between records q lines next h i d below =

@@ -7,8 +7,7 @@ ghost use Rattle.seatmelon_audit.specs.Records.{subject_behind};
 
 use rasta_check::StoreBuilder;
 use rasta_pcap::{CaptureTime, Fault, Record};
-use rasta_pdu::Params;
-use rasta_udp::datagram;
+use rasta_pdu::{Params, recorded_packet};
 use std::alloc::Global;
 
 /// The record that holds a packet: its number, from 1, and when it was captured.
@@ -97,10 +96,7 @@ impl Line {
     fn sees(&self, record: &Record<'_>) -> bool
         ensures { result ≡ is_some (packet_at self.now.params («record».now.number, «record».now.bytes.now)) }
     {
-        if record.number < self.params.first_record() {
-            return false;
-        }
-        matches!(datagram(record, self.params.channel()), Ok(Some(_)))
+        matches!(recorded_packet(&self.params, record), Ok(Some(_)))
     }
 
     // Notes a packet of the record with this number.

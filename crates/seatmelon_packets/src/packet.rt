@@ -9,7 +9,7 @@ use rasta_pcap::CaptureTime;
 use rasta_pdu::fields::{ending_in, opening_in};
 use rasta_pdu::layout::PAYLOAD_AT;
 use rasta_pdu::{Fields, Kind};
-use rasta_udp::{Channel, Fault, Record, datagram, route_in};
+use rasta_udp::{Channel, Fault, Record, datagram_in, route_in};
 
 /// What an end says of itself at the opening, in which record: its version, four digits, and its N_sendmax.
 #[derive(Clone, Copy, PartialEq, Eq)]
@@ -152,7 +152,7 @@ pub fn sight_in(recognizer: &mut Recognizer, found: &Record<'_>, time: Option<Ca
     let Some(route) = route_in(found.bytes) else {
         return Sight::Other;
     };
-    match datagram(found, &[route]) {
+    match datagram_in(found.bytes, &[route]) {
         Ok(Some(datagram)) => {
             let bytes = datagram.payload;
             sight_of(packet_by(recognizer, found.number, time, route, bytes))

@@ -21,11 +21,12 @@ use Rattle.rasta_pcap.proofs.Steps.{next-fault_place, next-is_next_entry, readin
 use Rattle.rasta_pcap.specs.Fault.{fault_at, no_memory, read_failed}
 use Rattle.rasta_pcap.specs.declared.stream.RecordReader.{RecordReader}
 use Rattle.rasta_pcap.specs.Stream.{FailsWithin, LacksMemory, MeetsEnd, Opens, ReadsRecord, RefusesHeader, RefusesRecord, count_in, order_in, room_in, unit_in}
-use Rattle.rasta_udp.specs.Frame.{Packet, packet_in}
+use Rattle.rasta_udp.specs.Frame.{at_record, Packet, packet_in}
 use Rattle.rasta_pdu.specs.Params.{Parameters}
+use Rattle.rasta_pdu.specs.Records.{recorded_packet}
 use Rattle.rasta_check.specs.Capture.SentLists.{FirstCopy}
 use Rattle.rasta_check.specs.Capture.Crossing.{Crossing, nothing_crossed}
-use Rattle.rasta_check.specs.Capture.Reading.{after_frame, after_packet, after_reading, after_record, after_records, then_crossing, crossing_with}
+use Rattle.rasta_check.specs.Capture.Reading.{after_found, after_packet, after_reading, after_record, after_records, then_crossing, crossing_with}
 use Rattle.rasta_check.specs.Capture.Reading as crossings
 use Rattle.rasta_check.specs.Capture.Building.{crossed_in}
 use Rattle.rasta_check.specs.declared.passage.Passage.{Passage}
@@ -67,19 +68,15 @@ judged_params None k n number packet e =
     within_params (crossings.keeps_limits (crossings.with_packet k packet)) (crossings.with_packet k packet) n _ e
     ∙ with_params k packet packet.side (crossings.sent_after k packet)
 
-frame_params : (found : Result (Option Packet) Fault) (k n : Crossing) (number : ℕ) → after_frame k number found ≡ ok n → n.params ≡ k.params
+frame_params : (found : Result (Option Packet) Fault) (k n : Crossing) (number : ℕ) → after_found k number found ≡ ok n → n.params ≡ k.params
 unfolding after_packet
 frame_params (Ok None) k n number e = ap (λ (c : Crossing). c.params) (sym (same_crossing k n e))
 frame_params (Ok (Some packet)) k n number e = judged_params _ k n number packet e
 frame_params (Err f) k n number e = absurd cc
 
-cond_params : (b : Bool) (k n : Crossing) (number : ℕ) (found : Result (Option Packet) Fault) → cond b (ok k) (after_frame k number found) ≡ ok n → n.params ≡ k.params
-cond_params true k n number found e = ap (λ (c : Crossing). c.params) (sym (same_crossing k n e))
-cond_params false k n number found e = frame_params found k n number e
-
 pub record_params : (k n : Crossing) (r : Numbered) → after_record k r ≡ Ok n → n.params ≡ k.params
 unfolding after_record
-record_params k n r e = cond_params (nat_lt r.0 k.params.first_record) k n r.0 (packet_in k.params.channels r.1) e
+record_params k n r e = frame_params (recorded_packet k.params r) k n r.0 e
 
 -- ---- where a record stands to the window
 
@@ -107,7 +104,7 @@ pub judged_before : (p : Parameters) (k : Crossing) (r : Numbered) → k.params 
 unfolding after_record
 judged_before p k r same order before =
     judged_inside p k r (omega arith)
-    ∙ ap (λ b. cond b (ok k) (after_frame k r.0 (packet_in k.params.channels r.1))) (below r.0 k.params.first_record (subst (λ (q : Parameters). r.0 < q.first_record) (sym same) before))
+    ∙ ap (λ (b : Bool). after_found k r.0 (cond b (Ok None) (at_record r.0 (packet_in k.params.channels r.1)))) (below r.0 k.params.first_record (subst (λ (q : Parameters). r.0 < q.first_record) (sym same) before))
 
 -- ---- what crosses
 

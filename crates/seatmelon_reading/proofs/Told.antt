@@ -11,11 +11,11 @@ use Rattle.rasta_pcap.specs.declared.time.CaptureTime.{CaptureTime}
 use Rattle.rasta_pcap.specs.Fault.{fault_at, no_memory, too_many}
 use Rattle.rasta_pcap.specs.Capture.{Numbered}
 use Rattle.rasta_pcap.specs.Captured.{Captured, numbered}
-use Rattle.rasta_udp.specs.Frame.{Packet, packet_in}
+use Rattle.rasta_udp.specs.Frame.{at_record, Packet, packet_in}
 use Rattle.rasta_pdu.specs.Params.{Parameters}
 use Rattle.rasta_check.specs.Capture.PacketFaults.{packet_fault}
 use Rattle.rasta_check.specs.Capture.Crossing.{Crossing, sent_by}
-use Rattle.rasta_check.specs.Capture.Reading.{packet_found, after_frame, after_judged, after_packet, after_record, keeps_limits, with_packet}
+use Rattle.rasta_check.specs.Capture.Reading.{packet_found, after_found, after_judged, after_packet, after_record, keeps_limits, with_packet}
 use Rattle.seatmelon_reading.specs.Codes.{codes_from, codes_next, codes_of, own_codes}
 use Rattle.seatmelon_reading.specs.Noted.{AreNotes, Seen, all_seen, is_before, is_inside, is_left_out, seen_by, seen_in, seen_inside, sighting_of}
 use Rattle.seatmelon_reading.specs.Told.{AreBefore, AreLower, IsMadeOf, IsSighted, IsTrueOf, TellsStill}
@@ -46,13 +46,15 @@ judged_place : (k : Crossing) (number : ℕ) (packet : Packet) (fault : Option �
 judged_place k number packet (Some n) f e = err_place _ f e
 judged_place k number packet None f e = limits_place number (with_packet k packet) (keeps_limits (with_packet k packet)) f e
 
-frame_place : (k : Crossing) (number : ℕ) (o : Result (Option Packet) Fault) (f : Fault) → after_frame k number o ≡ Err f → f.place ≡ number
+frame_place : (k : Crossing) (number : ℕ) (o : Result (Option Packet) Fault) (f : Fault) → after_found k number (at_record number o) ≡ Err f
+    → f.place ≡ number
 unfolding after_packet
 frame_place k number (Ok None) f e = absurd cc
 frame_place k number (Ok (Some packet)) f e = judged_place k number packet (packet_fault k.params (sent_by k packet.side) packet) f e
 frame_place k number (Err fault) f e = err_place (fault_at fault.number number) f e
 
-window_place : (k : Crossing) (r : Numbered) (b : Bool) (f : Fault) → cond b (Ok k) (after_frame k r.0 (packet_in k.params.channels r.1)) ≡ Err f → f.place ≡ r.0
+window_place : (k : Crossing) (r : Numbered) (b : Bool) (f : Fault)
+    → after_found k r.0 (cond b (Ok None) (at_record r.0 (packet_in k.params.channels r.1))) ≡ Err f → f.place ≡ r.0
 window_place k r true f e = absurd cc
 window_place k r false f e = frame_place k r.0 (packet_in k.params.channels r.1) f e
 

@@ -10,9 +10,9 @@ use crate::code_count::CodeCount;
 use crate::notes::{Notes, Sighting};
 use crate::times::time_told;
 use rasta_check::{SentList, SpanList, Store};
-use rasta_pcap::{CaptureTime, Fault, Record, Side};
+use rasta_pcap::{CaptureTime, Fault, Side};
 use rasta_pdu::{Fields, Params, decode};
-use rasta_udp::{Datagram, datagram};
+use rasta_udp::{Datagram, datagram_in};
 use std::alloc::Global;
 
 /// A packet beside the refused one, and its datagram.
@@ -82,11 +82,7 @@ fn next_number(list: &SpanList<'_>) -> Option<u32> {
 // number of the refused packet.
 fn wanted_packet(params: &Params, fault: Fault, frame: &[u8], next: Option<u32>) -> Option<Wanted> {
     let side = fault.end?;
-    let record = Record {
-        number: fault.place,
-        bytes: frame,
-    };
-    let packet = datagram(&record, params.channel()).ok()??;
+    let packet = datagram_in(frame, params.channel()).ok()??;
     let number = match fault.number {
         Fault::NUMBER_GAP => next?,
         _ => Fields::of(packet.payload).number?,

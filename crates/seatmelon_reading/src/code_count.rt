@@ -3,9 +3,9 @@ ghost use Rattle.std.specs.Prelude.{◌≡◌, ◌<◌, ◌^◌};
 ghost use Rattle.rasta_udp.specs.Frame.{packet_of};
 ghost use Rattle.seatmelon_reading.specs.Codes.{code_fit, codes_with, own_codes};
 
-use rasta_pcap::{CaptureTime, Fault, Record};
+use rasta_pcap::{CaptureTime, Fault};
 use rasta_pdu::{Params, decode};
-use rasta_udp::{Datagram, datagram};
+use rasta_udp::{Datagram, datagram_in};
 
 /// Of the packets of the connection in the window from the refused one on: how many have a safety code that can be
 /// judged, and how many of these have the one that is due. Both are 0 where packets have no safety code.
@@ -80,11 +80,7 @@ impl CodeCount {
         if time.is_none() {
             return CodeCount::NONE;
         }
-        let record = Record {
-            number: 0,
-            bytes: frame,
-        };
-        match datagram(&record, params.channel()) {
+        match datagram_in(frame, params.channel()) {
             Ok(Some(packet)) => CodeCount::NONE.with_packet(params, &packet),
             Ok(None) | Err(_) => CodeCount::NONE,
         }

@@ -13,7 +13,7 @@ use rasta_udp::fields::{header_length, is_tagged, u16_at};
 use rasta_udp::layout::{
     IPV4, LEAST_IPV4_FRAME, LEAST_IPV4_HEADER, PROTOCOL_AT, TAG, TAGGED, TYPE_AT, UDP, VERSION_AT,
 };
-use rasta_udp::{Channel, Datagram, datagram};
+use rasta_udp::{Channel, Datagram, datagram_in};
 
 // The type field of Ethernet II of a tag of IEEE 802.1ad.
 const SERVICE_TAGGED: u16 = 0x88a8;
@@ -22,7 +22,7 @@ const SERVICE_TAGGED: u16 = 0x88a8;
 pub fn packet<'r>(params: &Params, record: &Record<'r>) -> Option<Datagram<'r>>
     ensures { option_map packet_of result ≡ packet_found (packet_in params.now.channels «record».now.bytes.now) }
 {
-    datagram(record, params.channel()).ok()?
+    datagram_in(record.bytes, params.channel()).ok()?
 }
 
 // Whether a frame without a tag holds UDP over IPv4.
@@ -63,11 +63,7 @@ fn is_of_channels(frame: &[u8], channels: &[Channel]) -> bool
     requires { length channels.now ≤ 255 }
     ensures { result ≡ is_of_channels (packet_in channels.now frame.now) }
 {
-    let record = Record {
-        number: 0,
-        bytes: frame,
-    };
-    match datagram(&record, channels) {
+    match datagram_in(frame, channels) {
         Ok(None) => false,
         Ok(Some(_)) | Err(_) => true,
     }
@@ -113,7 +109,7 @@ pub fn why_passed(params: &Params, without: &[u32], record: &Record<'_>) -> WhyP
     if without.contains(&record.number) {
         return WhyPassed::LeftOut;
     }
-    match datagram(record, params.channel()) {
+    match datagram_in(record.bytes, params.channel()) {
         Ok(_) => why_not(record.bytes, params.channel()),
         Err(_) => WhyPassed::Unreadable,
     }

@@ -3,7 +3,7 @@ ghost use Rattle.std.specs.Prelude.{◌≡◌, ◌≢◌, ◌≤◌, ◌⊎◌, 
 ghost use Rattle.std.specs.Option.{ForSome};
 ghost use Rattle.rasta_pcap.specs.Captured.{Captured, numbered};
 ghost use Rattle.rasta_pcap.specs.Fault.{no_memory, read_failed};
-ghost use Rattle.rasta_udp.specs.Frame.{packet_in, packet_of};
+ghost use Rattle.rasta_udp.specs.Frame.{packet_in};
 ghost use Rattle.rasta_pdu.specs.Params.{IsWindow};
 ghost use Rattle.rasta_check.specs.Capture.Building.{crossed_in};
 ghost use Rattle.rasta_check.specs.Capture.Passages as passages;
@@ -19,7 +19,6 @@ use crate::window::{Standing, standing_of};
 use rasta_check::{Passage, StoreBuilder};
 use rasta_pcap::{CaptureTime, Fault, Record};
 use rasta_pdu::Params;
-use rasta_udp::Datagram;
 use std::alloc::Global;
 
 /// A reading on its way.
@@ -43,22 +42,12 @@ fn is_failure(fault: Fault) -> bool
     matches!(fault.number, Fault::NO_MEMORY | Fault::READ_FAILED)
 }
 
-// Where a packet crossed.
-fn passage_of(found: &Datagram<'_>) -> Passage
-    ensures { result ≡ passages.passage_of (packet_of found.now) }
-{
-    Passage {
-        side: found.side,
-        channel: found.channel,
-    }
-}
-
 // Where the packet of a record crossed, if it holds one of the recorded channels.
 fn passage_in(params: &Params, record: &Record<'_>) -> Option<Passage>
     ensures { result ≡ passages.passage_in (packet_found (packet_in params.now.channels «record».now.bytes.now)) }
 {
     let found = packet(params, record)?;
-    Some(passage_of(&found))
+    Some(Passage::of(&found))
 }
 
 impl<'a> Pass<'a> {
@@ -170,7 +159,7 @@ impl<'a> Pass<'a> {
         if let Some(refusal) = &mut self.refusal {
             refusal.look_at(alloc, &self.params, sighting, &found)?;
         }
-        Ok(Some(passage_of(&found)))
+        Ok(Some(Passage::of(&found)))
     }
 
     // Takes in what a record holds, and answers where its packet crossed.

@@ -1,11 +1,12 @@
 -- What the records of a window hold, and how it is read.
-use Rattle.std.specs.Prelude.{ℕ, ◌==◌, List, filter_map, nat_lt, Bool, true, false, Option, Some, None, Result, Ok, Err}
+use Rattle.std.specs.Prelude.{ℕ, ◌==◌, List, filter_map, Bool, true, false, Option, Some, None, Result, Ok, Err}
 use Rattle.std.specs.Prelude.{option_map, if◌then◌else◌}
 use Rattle.rasta_pcap.specs.declared.fault.Fault.{Fault}
 use Rattle.rasta_pcap.specs.Capture.{Numbered}
-use Rattle.rasta_udp.specs.Frame.{Packet, packet_in, packet_of}
+use Rattle.rasta_udp.specs.Frame.{Packet, packet_of}
 use Rattle.rasta_pdu.specs.Params.{Parameters}
 use Rattle.rasta_pdu.specs.Pdu.{RedundancyPdu, decode_of}
+use Rattle.rasta_pdu.specs.Records.{recorded_packet}
 use Rattle.seatmelon_show.specs.declared.decoding.Decoding.{Decoding}
 use Rattle.seatmelon_show.specs.declared.decoding.Decoding.TheVariants.{Whole, OtherCode, Faulty}
 use Rattle.seatmelon_show.specs.declared.sight.Found.{Found}
@@ -33,8 +34,7 @@ found_by (Err fault) = Some (Err fault)
 
 -- what a record holds, unless it stands before the window
 abbrev pub sighted_in : Parameters → Numbered → Option Seen
-sighted_in p r = if nat_lt r.0 p.first_record then None
-    else option_map (λ found. record { number = r.0; found = found }) (found_by (packet_in p.channels r.1))
+sighted_in p r = option_map (λ found. record { number = r.0; found = found }) (found_by (recorded_packet p r))
 
 -- what the records of a reading that ends with the window's last record hold, in order
 abbrev pub all_sighted : Parameters → List Numbered → List Seen

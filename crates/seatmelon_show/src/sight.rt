@@ -1,11 +1,9 @@
 //! What a record of the window holds.
 ghost use Rattle.std.specs.Prelude.{◌≡◌, option_map};
-ghost use Rattle.seatmelon_show.specs.Sighted.{found_by, found_of, seen_of, sighted_in};
-ghost use Rattle.rasta_udp.specs.Frame.{packet_in};
+ghost use Rattle.seatmelon_show.specs.Sighted.{seen_of, sighted_in};
 
 use rasta_pcap::{Fault, Record};
-use rasta_pdu::Params;
-use rasta_udp::{Datagram, datagram};
+use rasta_pdu::{Datagram, Params, recorded_packet};
 
 /// What a frame between the recorded hosts holds.
 #[derive(Clone, Copy)]
@@ -25,25 +23,14 @@ pub struct Sight<'a> {
     pub found: Found<'a>,
 }
 
-// What a frame holds, if it is one of the recorded channels or can't be read.
-fn found_in<'a>(params: &Params, record: &Record<'a>) -> Option<Found<'a>>
-    ensures { option_map found_of result ≡ found_by (packet_in params.now.channels «record».now.bytes.now) }
-{
-    match datagram(record, params.channel()) {
-        Ok(Some(datagram)) => Some(Found::Datagram(datagram)),
-        Ok(None) => None,
-        Err(fault) => Some(Found::Unreadable(fault)),
-    }
-}
-
 /// What a record holds: none where it stands before the window or holds nothing of the recorded channels.
 pub fn sight_in<'a>(params: &Params, record: &Record<'a>) -> Option<Sight<'a>>
     ensures { option_map seen_of result ≡ sighted_in params.now («record».now.number, «record».now.bytes.now) }
 {
-    if record.number < params.first_record() {
-        return None;
-    }
-    let found = found_in(params, record)?;
+    let found = match recorded_packet(params, record) {
+        Ok(found) => Found::Datagram(found?),
+        Err(fault) => Found::Unreadable(fault),
+    };
     Some(Sight {
         number: record.number,
         found,

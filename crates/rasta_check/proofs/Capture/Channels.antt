@@ -1,11 +1,13 @@
 -- Packets are found on recorded channels.
-use Rattle.std.proofs.Common.{◌≡◌, ℕ, ◌+◌, ◌<◌, ◌≤◌, List, [], ◌∷◌, ◌++◌, length, Option, Some, Result, Ok, refl, ap, sym, ◌∙◌, arith, subst}
+use Rattle.std.proofs.Common.{◌≡◌, ℕ, ◌+◌, ◌<◌, ◌≤◌, List, [], ◌∷◌, ◌++◌, length, Option, Some, None, Result, Ok, Err, Bool, cond, nat_lt, refl, ap, sym, ◌∙◌, arith, subst}
 use Rattle.rasta_check.proofs.Prelude.{if◌then◌else◌, Fault, Packet, packet_in, packet_of, Parameters, CrossRecorded, all_push}
 use Rattle.std.specs.Prelude.{slice_range, true, false, IfOk, IfSome}
 use Rattle.std.specs.List.{find}
 use Rattle.rasta_udp.specs.declared.channel.Channel.{Channel}
 use Rattle.rasta_udp.specs.declared.channel.Datagram.{Datagram}
-use Rattle.rasta_udp.specs.Frame.{Direction, Fields, Found, directions_from, direction_of, fields_of, goes, found_by, is_tagged, map_found, untagged_of, without_tag, moved_on, datagram_of, packet_at}
+use Rattle.rasta_pcap.specs.Capture.{Numbered}
+use Rattle.rasta_pdu.specs.Records.{recorded_packet}
+use Rattle.rasta_udp.specs.Frame.{at_record, Direction, Fields, Found, directions_from, direction_of, fields_of, goes, found_by, is_tagged, map_found, untagged_of, without_tag, moved_on, datagram_of, packet_at}
 use Rattle.rasta_check.specs.Capture.SentLists.{IsRecorded}
 
 -- a channel's number is one of so many from this one on
@@ -51,10 +53,19 @@ in_range channels frame a h = (subst (Finds _) h (packet_finds channels frame)).
 pub is_recorded : (p : Parameters) (frame : List ℕ) (a : Packet) → packet_in p.channels frame ≡ Ok (Some a) → IsRecorded p a.channel
 is_recorded p frame a h = (let w = (subst (Finds _) h (packet_finds p.channels frame)).0 in let low = w.0 in let high = w.1 in (omega arith, omega arith))
 
+-- a packet that a record holds is that of its frame
+in_frame : (b : Bool) (number : ℕ) (x : Result (Option Packet) Fault) (a : Packet) → cond b (Ok None) (at_record number x) ≡ Ok (Some a)
+    → x ≡ Ok (Some a)
+in_frame true number x a e = absurd cc
+in_frame false number (Ok found) a e = e
+in_frame false number (Err fault) a e = absurd cc
+
 -- so was the datagram that the code finds in it
-pub is_recorded_by : (p : Parameters) (channels : List Channel) (frame : List ℕ) (o : Result (Option Datagram) Fault) (q : Option Datagram) (found : Datagram) → channels ≡ p.channels
-    → map_found packet_of o ≡ packet_in channels frame → o ≡ Ok q → q ≡ Some found → IsRecorded p found.channel
-is_recorded_by p channels frame o q found a b e f = is_recorded p frame (packet_of found) (rw (← a) (sym b ∙ ap (map_found packet_of) (e ∙ ap Ok f)))
+pub is_recorded_by : (p : Parameters) (r : Numbered) (o : Result (Option Datagram) Fault) (q : Option Datagram) (found : Datagram)
+    → map_found packet_of o ≡ recorded_packet p r → o ≡ Ok q → q ≡ Some found → IsRecorded p found.channel
+is_recorded_by p r o q found a e f =
+    is_recorded p r.1 (packet_of found)
+    (in_frame (nat_lt r.0 p.first_record) r.0 (packet_in p.channels r.1) (packet_of found) (sym a ∙ ap (map_found packet_of) (e ∙ ap Ok f)))
 
 -- packets on recorded channels, and one more
 pub recorded_more : (p : Parameters) (packets : List Packet) (a : Packet) → CrossRecorded p packets → IsRecorded p a.channel → CrossRecorded p (packets ++ a ∷ [])

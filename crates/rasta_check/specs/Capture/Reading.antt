@@ -1,14 +1,15 @@
 -- What is read of a capture: the packets that crossed with what each side sent, or the first fault.
-use Rattle.std.specs.Prelude.{ℕ, List, [], ◌∷◌, ◌++◌, length, Option, Some, None, Result, Ok, Err, Bool, ◌&&◌, nat_lt}
-use Rattle.std.specs.Prelude.{nat_le, if◌then◌else◌}
+use Rattle.std.specs.Prelude.{ℕ, List, [], ◌∷◌, ◌++◌, length, Option, Some, None, Result, Ok, Err, Bool, ◌&&◌, nat_le}
+use Rattle.std.specs.Prelude.{if◌then◌else◌}
 use Rattle.rasta_pcap.specs.declared.fault.Fault.{Fault}
 use Rattle.rasta_pcap.specs.declared.fault.Side.{Side}
 use Rattle.rasta_pcap.specs.declared.fault.Side.TheVariants.{Client, Server}
 use Rattle.rasta_pcap.specs.Fault.{fault_at, fault_of_end, too_many}
 use Rattle.rasta_pcap.specs.Capture.{Numbered, Reading, reading_of}
-use Rattle.rasta_udp.specs.Frame.{Packet, packet_in}
+use Rattle.rasta_udp.specs.Frame.{Packet}
 use Rattle.rasta_pdu.specs.Params.{Parameters}
 use Rattle.rasta_pdu.specs.Pdu.{RedundancyPdu, decode_of}
+use Rattle.rasta_pdu.specs.Records.{recorded_packet}
 use Rattle.rasta_check.specs.Capture.SentLists.{FirstCopy}
 use Rattle.rasta_check.specs.Capture.PacketFaults.{copy_with, packet_fault}
 use Rattle.rasta_check.specs.Capture.Crossing.{Crossing, nothing_crossed, sent_by}
@@ -58,16 +59,13 @@ after_packet k number packet = after_judged k number packet (packet_fault k.para
 
 -- ---- the next record
 
--- a frame's fault speaks of no end
-abbrev pub after_frame : Crossing → ℕ → Result (Option Packet) Fault → Result Crossing Fault
-after_frame k number (Ok None) = Ok k
-after_frame k number (Ok (Some packet)) = after_packet k number packet
-after_frame k number (Err fault) = Err (fault_at fault.number number)
+abbrev pub after_found : Crossing → ℕ → Result (Option Packet) Fault → Result Crossing Fault
+after_found k number (Ok None) = Ok k
+after_found k number (Ok (Some packet)) = after_packet k number packet
+after_found k number (Err fault) = Err fault
 
--- records before the window are not judged
 unfoldable pub after_record : Crossing → Numbered → Result Crossing Fault
-after_record k r = if nat_lt r.0 k.params.first_record then Ok k
-    else after_frame k r.0 (packet_in k.params.channels r.1)
+after_record k r = after_found k r.0 (recorded_packet k.params r)
 
 -- ---- the packet in a record
 
@@ -77,7 +75,7 @@ packet_found (Err fault) = None
 
 -- the packet of the connection that a record holds; none before the window
 abbrev pub packet_at : Parameters → Numbered → Option Packet
-packet_at p r = if nat_lt r.0 p.first_record then None else packet_found (packet_in p.channels r.1)
+packet_at p r = packet_found (recorded_packet p r)
 
 -- ---- a file
 

@@ -2,7 +2,11 @@
 ghost use Rattle.std.specs.Prelude.{true, ◌≡◌, IfOk, MatchResult, Ok, Err, slice_range};
 ghost use Rattle.rasta_pdu.specs.Pdu.{IsRedundancyPdu, RedundancyPdu, check_at, code_at, code_of, decode_of, read_code, redundancy_bytes, value_of};
 
-use rasta_pdu::{Fault, LastDatagram, Params, Pdu, Side, decode, read_decoded};
+use crate::last_datagram::LastDatagram;
+use crate::params::Params;
+use crate::pdu::Pdu;
+use crate::read::{decode, read_decoded};
+use rasta_udp::{Fault, Side};
 use std::alloc::Global;
 use std::marker::Model;
 
@@ -19,7 +23,7 @@ pub struct Decoder<'p> {
 
 impl<'p> Model for Decoder<'p> {
     ghost use Rattle.rasta_pdu.specs.Params.{Parameters};
-    ghost use Rattle.rasta_show.specs.Decoding.{IsKept};
+    ghost use Rattle.rasta_pdu.specs.Decoding.{IsKept};
 
     ghost Value = { Parameters };
 
