@@ -23,7 +23,7 @@ from pathlib import Path
 CRATES = Path(__file__).resolve().parent.parent / "crates"
 OUTSIDE = {"rasta_draws", "rasta_plain", "rasta_rows", "rasta_layer_tests", "rasta_verdict_tests", "rasta_tests", "rasta_bench",
     "seatmelon", "seatmelon_audit", "seatmelon_audit_tests", "seatmelon_capture", "seatmelon_commands", "seatmelon_connections", "seatmelon_explain", "seatmelon_explain_tests",
-    "seatmelon_lines", "seatmelon_packets", "seatmelon_pcapng", "seatmelon_pcapng_tests", "seatmelon_reading",
+    "seatmelon_packets", "seatmelon_pcapng", "seatmelon_pcapng_tests", "seatmelon_reading",
     "seatmelon_account", "seatmelon_many", "seatmelon_show", "seatmelon_suppose", "seatmelon_survey", "seatmelon_survey_tests", "seatmelon_tally",
     "seatmelon_telling", "seatmelon_text", "seatmelon_words",
     "seatmelon_workloads"}

@@ -57,10 +57,9 @@ def names_for_investigators():
 
 
 def words():
-    """The numbers of the faults that have a meaning in words."""
-    text, numbers = text_of("crates/seatmelon_telling/src/words.rt"), constants()
-    meanings = text[text.index("/// What the fault of a capture with this header means") : text.index("/// What may be the cause")]
-    return {numbers[name] for name in re.findall(r"Fault::([A-Z_]+) =>", meanings)}
+    """The numbers of the faults that have a row of words; what that of the link type says depends on the header."""
+    text, numbers = text_of("crates/seatmelon_telling/src/fault_words.rt"), constants()
+    return {numbers[name] for name in ["LINK_TYPE", *re.findall(r"Fault::([A-Z_]+) => (?:row|entry)\(", text)]}
 
 
 def differences(names):

@@ -2,8 +2,8 @@
 ghost use Rattle.std.specs.Prelude.{◌≡◌};
 ghost use Rattle.rasta_commands.specs.Failing.{status_of};
 
+use rasta_line::end_name;
 use rasta_pdu::Fault;
-use rasta_show::end_name;
 use thiserror::Error;
 
 /// Why the program gives up. Its text is the line on standard error.

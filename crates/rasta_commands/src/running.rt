@@ -2,7 +2,7 @@
 ghost use Rattle.std.specs.Prelude.{◌≡◌, ◌⊎◌, List, ℕ, Ok, Err, IfErr, IfOk, OnErr};
 ghost use Rattle.rasta_pdu.specs.Params.{Parameters};
 ghost use Rattle.rasta_params.specs.Keys.{ReadsParameters};
-ghost use Rattle.rasta_show.specs.Runs.{IsRunFault};
+ghost use Rattle.rasta_line.specs.Runs.{IsRunFault};
 ghost use Rattle.rasta_verdict.specs.Verdict.{WritesVerdict};
 ghost use Rattle.rasta_commands.specs.Forms.{BeginsTelling, CarriesOut, GivesUp, HoldsDecision, HoldsHeadline, IsReadFault, ReadsCertificate, ReadsParameterFile, ReadsWhole, StaysSilent, Tells};
 

@@ -1,2 +1,4 @@
 pub mod Numbers
 pub mod Cuts
+pub mod Sending
+mod Asked

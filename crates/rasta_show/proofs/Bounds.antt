@@ -5,7 +5,7 @@ use Rattle.rasta_pcap.specs.Capture.{Numbered}
 use Rattle.rasta_pcap.specs.Extent.{HasRead, ReadsWithinRecord}
 use Rattle.rasta_pcap.specs.Stream.{ReadsRecord}
 use Rattle.rasta_pcap.proofs.Extents.{HasRead-more, ReadsUpToRecord-part, ReadsUpToRecord-whole}
-use Rattle.rasta_show.specs.Runs.{GoesUpToRecord}
+use Rattle.rasta_line.specs.Runs.{GoesUpToRecord}
 
 -- where the header of a capture was read before and no record, exactly so many records were read
 abbrev pub HasReadMore : Endianness → Endianness → ℕ → Option (List ℕ) → Option (List ℕ) → Type 0

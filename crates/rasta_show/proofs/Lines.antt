@@ -1,8 +1,9 @@
 -- The line of a packet with messages, in the parts that are written.
 use Rattle.std.proofs.Common.{◌≡◌, ℕ, ◌++◌, List, [], ◌∷◌, codes}
-use Rattle.rasta_show.specs.Lines.{ShownPacket, codes_line, front_words, words_before, messages_text}
+use Rattle.rasta_show.specs.Lines.{ShownPacket, codes_line, front_words, messages_text}
+use Rattle.rasta_line.specs.Texts.{words_before}
 use Rattle.rasta_show.specs.Shown.{data_front, data_line}
-use Rattle.rasta_show.proofs.Sending.{words_before-append}
+use Rattle.rasta_line.proofs.Sending.{words_before-append}
 use Rattle.rasta_pdu.specs.Pdu.{messages_in}
 
 -- the messages, and what follows them

@@ -9,7 +9,7 @@ use Rattle.rasta_pcap.specs.Devices.{HasFailed}
 use Rattle.rasta_pcap.specs.Fault.{fault_at, cut_header, cut_record, no_memory, not_pcap, read_failed, record_too_long, too_many, wrong_link_type, wrong_version}
 use Rattle.rasta_pcap.specs.Stream.{FailsWithin, LacksMemory, RefusesHeader, RefusesRecord}
 use Rattle.rasta_pcap.proofs.Steps.{Outcome, tested}
-use Rattle.rasta_show.specs.Runs.{IsRunFault}
+use Rattle.rasta_line.specs.Runs.{IsRunFault}
 
 abbrev faulty : Fault → Outcome
 faulty f = Err f

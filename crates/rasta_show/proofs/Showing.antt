@@ -5,7 +5,8 @@ use Rattle.rasta_pcap.specs.declared.pcap.Endianness.{Endianness}
 use Rattle.rasta_pcap.specs.Capture.{Numbered, Reading, cursor_at, reading, with_record}
 use Rattle.rasta_pcap.proofs.Steps.{reading-none_left}
 use Rattle.rasta_pdu.specs.Params.{Parameters}
-use Rattle.rasta_show.specs.Lines.{ShownPacket, packet_line, packets_line, refused_line}
+use Rattle.rasta_show.specs.Lines.{ShownPacket, packet_line, packets_line}
+use Rattle.rasta_line.specs.Texts.{refused_line}
 use Rattle.rasta_show.specs.Show.{packet, sight_of, Shown, with_sight, shown_in, shown_of, lines_from, last_line, text_from}
 
 -- nothing is shown of nothing

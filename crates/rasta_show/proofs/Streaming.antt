@@ -12,7 +12,7 @@ use Rattle.rasta_pcap.proofs.Streams.{reading-ReadsRecord, reading-RefusesRecord
 use Rattle.rasta_pdu.specs.Params.{Parameters}
 use Rattle.rasta_show.specs.Lines.{ShownPacket, packet_line}
 use Rattle.rasta_show.specs.Show.{Shown, Sight, packet, passed_over, refused, shown, shown_of, sight_of, status_after, text_from, with_sight}
-use Rattle.rasta_show.specs.Runs.{WritesBeginning, WritesText}
+use Rattle.rasta_line.specs.Runs.{WritesBeginning, WritesText}
 use Rattle.rasta_show.specs.Shown.{shown_left}
 use Rattle.rasta_show.proofs.Showing.{left-after, nothing, refusal, shown-none_left, shown-nothing, shown-record, shown-refusal, text_from-packet}
 

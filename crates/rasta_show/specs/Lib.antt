@@ -1,5 +1,4 @@
 pub mod Lines
 pub mod Codes
 pub mod Show
-pub mod Runs
 pub mod Shown

@@ -7,7 +7,8 @@ use Rattle.rasta_udp.specs.Frame.{Packet}
 use Rattle.rasta_pdu.specs.Params.{Parameters}
 use Rattle.rasta_pdu.specs.Pdu.{RedundancyPdu, code_of, decode_of}
 use Rattle.rasta_pdu.specs.Records.{recorded_packet}
-use Rattle.rasta_show.specs.Lines.{ShownPacket, packet_line, packets_line, refused_line}
+use Rattle.rasta_show.specs.Lines.{ShownPacket, packet_line, packets_line}
+use Rattle.rasta_line.specs.Texts.{refused_line}
 
 -- what a record is: before the window or of no channel, a packet of the connection, or refused
 pub data Sight : Type 0 where

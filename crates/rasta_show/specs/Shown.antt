@@ -5,7 +5,8 @@ use Rattle.rasta_pcap.specs.Capture.{cursor_at, reading}
 use Rattle.rasta_pcap.specs.Stream.{count_in, order_in}
 use Rattle.rasta_pdu.specs.Params.{Parameters}
 use Rattle.rasta_pdu.specs.Pdu.{messages_in, read_code, value_of}
-use Rattle.rasta_show.specs.Lines.{ShownPacket, codes_line, front_words, words_before, messages_text}
+use Rattle.rasta_show.specs.Lines.{ShownPacket, codes_line, front_words, messages_text}
+use Rattle.rasta_line.specs.Texts.{words_before}
 use Rattle.rasta_show.specs.Show.{packet, passed_over, refused, Shown, Sight, shown_of, status_after, text_from}
 use Rattle.rasta_show.specs.declared.shown_packet.ShownPacket.{ShownPacket as HeldPacket}
 use Rattle.rasta_show.specs.declared.show.Seen.{Seen}

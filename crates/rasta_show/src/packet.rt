@@ -3,13 +3,13 @@ ghost use Rattle.std.specs.Prelude.{◌≡◌, ◌+◌, ◌*◌, ◌≤◌, ◌+
 ghost use Rattle.rasta_pcap.specs.Devices.{Writes, AsWritten};
 ghost use Rattle.rasta_pdu.specs.Pdu.{Bye, Empty, Opening, read_code, value_of};
 ghost use Rattle.rasta_show.specs.Codes.{HasShortCodes};
-ghost use Rattle.rasta_show.specs.Lines.{body_words, code_text, codes_line, front_words, words_before, packet_line};
+ghost use Rattle.rasta_show.specs.Lines.{body_words, code_text, codes_line, front_words, packet_line};
+ghost use Rattle.rasta_line.specs.Texts.{words_before};
 ghost use Rattle.rasta_show.specs.Shown.{data_front, data_line, packet_of};
 
 use crate::messages::write_messages;
 use crate::shown_packet::ShownPacket;
-use crate::texts::end_name;
-use rasta_line::Line;
+use rasta_line::{Line, end_name};
 use rasta_pcap::write_all;
 use rasta_pdu::{Body, Fault, Pdu, Sink};
 

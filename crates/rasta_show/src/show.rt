@@ -1,22 +1,19 @@
 //! The text of `show`.
-ghost use Rattle.std.specs.Prelude.{◌≡◌, IfOk, IfErr, OnErr, nat_le};
-ghost use Rattle.rasta_pcap.specs.Fault.{not_pcap};
-ghost use Rattle.rasta_pcap.specs.Devices.{Writes, AsWritten};
+ghost use Rattle.std.specs.Prelude.{◌≡◌, IfOk, IfErr, OnErr};
 ghost use Rattle.rasta_pcap.specs.Extent.{ReadsUpToRecord};
 ghost use Rattle.rasta_pcap.specs.Stream.{order_in, progress_of};
 ghost use Rattle.rasta_pcap.specs.declared.stream.Progress.TheVariants.{Reading};
 ghost use Rattle.rasta_pdu.specs.Params.{AreParameters};
 ghost use Rattle.rasta_pdu.specs.Pdu.{decode_of};
 ghost use Rattle.rasta_show.specs.Show.{show_status, show_text, sight_of, sight_of_pdu};
-ghost use Rattle.rasta_show.specs.Lines.{refused_line};
 ghost use Rattle.rasta_show.specs.Shown.{sight_in, status_left, text_left};
 ghost use Rattle.rasta_udp.specs.Frame.{packet_of};
-ghost use Rattle.rasta_show.specs.Runs.{GoesUpToRecord, IsRunFault, WritesBeginning, WritesText};
+ghost use Rattle.rasta_line.specs.Runs.{GoesUpToRecord, IsRunFault, WritesBeginning, WritesText};
 
 use crate::packet::write_packet;
 use crate::shown_packet::ShownPacket;
-use crate::texts::{count_line, refusal_line};
-use rasta_line::Line;
+use crate::texts::count_line;
+use rasta_line::{Line, is_refusal, write_refusal};
 use rasta_pcap::stream::RecordReader;
 use rasta_pcap::{Record, write_all};
 use rasta_pdu::{Datagram, Decoder, Fault, Params, Sink, Source, recorded_packet};
@@ -28,13 +25,6 @@ pub enum Seen<'a> {
     PassedOver,
     Packet(ShownPacket<'a>),
     Refused(Fault),
-}
-
-/// Whether a capture's fault is told as its refusal; a lack of memory and a failed read are errors of the run.
-pub fn is_refusal(fault: Fault) -> bool
-    ensures { result ≡ nat_le not_pcap fault.number }
-{
-    fault.number >= Fault::NOT_PCAP
 }
 
 // What a datagram of the connection shows. A PDU's fault speaks of its sender.
@@ -71,16 +61,6 @@ fn sight<'a>(params: &Params, decoder: &mut Decoder<'_>, record: &Record<'a>) ->
         Ok(Some(found)) => sight_of_datagram(decoder, record.number, found),
         Err(fault) => Seen::Refused(fault),
     }
-}
-
-/// Writes the refusal that ends a text, and answers the status of the program, 1.
-pub fn write_refusal<W: Sink>(fault: Fault, writer: &mut W) -> Result<u8, Fault>
-    ensures out { Writes result (W.contents writer.old) (W.contents writer.new) (refused_line fault) }
-    ensures answered { IfOk result (λ status. status ≡ 1) }
-    ensures written { AsWritten result (W.failure_count writer.old) (W.failure_count writer.new) }
-{
-    write_all(writer, refusal_line(fault).as_bytes())?;
-    Ok(1)
 }
 
 // Writes what the records from here on show, each before the next is read.

@@ -15,7 +15,7 @@ use Rattle.rasta_check.specs.Verdict.Report as report
 use Rattle.rasta_verdict.specs.declared.verdict.Verdict.{Verdict}
 use Rattle.rasta_verdict.specs.declared.verdict.Verdict.TheVariants as verdicts
 use Rattle.rasta_verdict.specs.Judged.{IsVerdictByScripts, status_of_verdict, text_of_verdict, told_verdict}
-use Rattle.rasta_show.specs.Lines.{refused_line}
+use Rattle.rasta_line.specs.Texts.{refused_line}
 use Rattle.rasta_verdict.specs.Proposed as proposed
 use Rattle.rasta_verdict.specs.Proposed.{BeginsOutcome, IsOutcome, Telling}
 use Rattle.rasta_verdict.specs.Verdict.{explained_text}

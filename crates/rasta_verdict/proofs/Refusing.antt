@@ -11,8 +11,8 @@ use Rattle.rasta_pdu.specs.Params.{Parameters}
 use Rattle.rasta_check.specs.Capture.Reading.{crossing_of}
 use Rattle.rasta_check.specs.Internals.Storing.{IsFailure, IsRefusedSo}
 use Rattle.rasta_check.proofs.Capture.FaultNumbers.{file_sided}
-use Rattle.rasta_show.specs.Lines.{refused_line}
-use Rattle.rasta_show.specs.Runs.{IsRunFault}
+use Rattle.rasta_line.specs.Texts.{refused_line}
+use Rattle.rasta_line.specs.Runs.{IsRunFault}
 use Rattle.rasta_verdict.specs.Verdict.{WritesVerdict}
 use Rattle.rasta_verdict.proofs.Verdicts.{Texts}
 

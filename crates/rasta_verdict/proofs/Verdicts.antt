@@ -22,12 +22,12 @@ use Rattle.rasta_check.specs.Capture.Crossing.{Crossing}
 use Rattle.rasta_check.specs.Capture.Reading.{crossing_of}
 use Rattle.rasta_check.specs.Verdict.Report.{Explained, IsScriptVerdict}
 use Rattle.rasta_check.proofs.Script.Fits.{one_answer}
-use Rattle.rasta_show.proofs.Sending.{words_before-append}
+use Rattle.rasta_line.proofs.Sending.{words_before-append}
 use Rattle.rasta_verdict.specs.declared.verdict.Verdict.{Verdict}
 use Rattle.rasta_verdict.specs.declared.verdict.Verdict.TheVariants as verdicts
 use Rattle.rasta_verdict.specs.Judged.{HasToldRun, status_of_verdict, text_of_verdict}
-use Rattle.rasta_show.specs.Lines.{words_before, message_text, refused_line}
-use Rattle.rasta_show.specs.Runs.{IsRunFault}
+use Rattle.rasta_line.specs.Texts.{words_before, message_text, refused_line}
+use Rattle.rasta_line.specs.Runs.{IsRunFault}
 use Rattle.rasta_verdict.specs.RunText.{run_text}
 use Rattle.rasta_verdict.specs.Verdict.{BeginsVerdict, IsVerdict, WritesVerdict, capture_refused, certificate_refused, script_refused, explained, explained_line, explained_text, taken_count_line, taken_line, taken_lines, taken_text}
 

@@ -6,7 +6,7 @@ use Rattle.rasta_pdu.specs.Params.{Parameters}
 use Rattle.rasta_check.specs.Capture.Crossing.{Crossing}
 use Rattle.rasta_check.specs.Capture.Reading.{crossing_of}
 use Rattle.rasta_build.specs.Completeness.{CanCross}
-use Rattle.rasta_show.specs.Lines.{refused_line}
+use Rattle.rasta_line.specs.Texts.{refused_line}
 
 -- The text refuses by 60 at a place, counted from 1: no run of two ends within the limits sends packets that begin with
 -- those up to that place, and some run sends exactly those before it.

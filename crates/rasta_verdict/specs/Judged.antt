@@ -7,7 +7,7 @@ use Rattle.rasta_check.specs.declared.report.Report.{Report}
 use Rattle.rasta_check.specs.Verdict.Headline.{Headline}
 use Rattle.rasta_check.specs.Capture.Crossing.{Crossing}
 use Rattle.rasta_check.specs.Verdict.Report.{BothFit, IsScriptVerdict, explained}
-use Rattle.rasta_show.specs.Lines.{refused_line}
+use Rattle.rasta_line.specs.Texts.{refused_line}
 use Rattle.rasta_verdict.specs.Proposed.{Telling}
 use Rattle.rasta_verdict.specs.RunText.{run_text}
 use Rattle.rasta_verdict.specs.Told.{IsTold}

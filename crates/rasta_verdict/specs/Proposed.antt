@@ -7,8 +7,8 @@ use Rattle.rasta_cert.specs.Certificate.{IsCertificate, Scripts, certificate_tex
 use Rattle.rasta_check.specs.Capture.Crossing.{Crossing}
 use Rattle.rasta_check.specs.Capture.Reading.{crossing_of}
 use Rattle.rasta_check.specs.Verdict.Report.{Explained, IsScriptVerdict}
-use Rattle.rasta_show.specs.Lines.{refused_line}
-use Rattle.rasta_show.specs.Runs.{ReadsAndWrites}
+use Rattle.rasta_line.specs.Texts.{refused_line}
+use Rattle.rasta_line.specs.Runs.{ReadsAndWrites}
 use Rattle.rasta_verdict.specs.Verdict.{explained_text}
 
 -- how an explanation is written: what crossed, the scripts that explain it, and the report on both

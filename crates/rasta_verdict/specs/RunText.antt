@@ -8,7 +8,7 @@ use Rattle.rasta_cert.specs.Certificate.{Scripts, why_line}
 use Rattle.rasta_check.specs.Capture.Crossing.{Crossing}
 use Rattle.rasta_check.specs.Run.Lines.{What, took, made, copied, brought, waited, Line}
 use Rattle.rasta_check.specs.Run.Levels.{run_lines}
-use Rattle.rasta_show.specs.Lines.{words_before, line_of, side_text}
+use Rattle.rasta_line.specs.Texts.{words_before, line_of, side_text}
 
 -- `LEVEL SIDE take NUMBER`
 unfoldable pub take_text : ℕ → Side → ℕ → List ℕ

@@ -12,9 +12,9 @@ use Rattle.rasta_check.specs.Capture.Crossing.{Crossing}
 use Rattle.rasta_check.specs.Capture.Reading.{crossing_of}
 use Rattle.rasta_check.specs.Verdict.Listed.{ListedMessage}
 use Rattle.rasta_check.specs.Verdict.Report.{Explained, IsScriptVerdict}
-use Rattle.rasta_show.specs.Lines.{line_of, message_text, refused_line, side_text}
+use Rattle.rasta_line.specs.Texts.{line_of, message_text, refused_line, side_text}
 use Rattle.rasta_verdict.specs.RunText.{run_text}
-use Rattle.rasta_show.specs.Runs.{ReadsAndWrites}
+use Rattle.rasta_line.specs.Runs.{ReadsAndWrites}
 
 -- ---- texts
 

@@ -3,7 +3,7 @@ ghost use Rattle.std.specs.Prelude.{◌≡◌, ◌⊎◌, IfErr, IfOk, OnErr};
 ghost use Rattle.rasta_pcap.specs.Extent.{ReadsUpToRecord};
 ghost use Rattle.rasta_pcap.specs.Fault.{write_failed};
 ghost use Rattle.rasta_verdict.specs.Claims.{ClaimsHeadline};
-ghost use Rattle.rasta_show.specs.Runs.{IsRunFault};
+ghost use Rattle.rasta_line.specs.Runs.{IsRunFault};
 ghost use Rattle.rasta_verdict.specs.Decided.{Decides};
 ghost use Rattle.rasta_verdict.specs.Verdict.{WritesVerdict};
 ghost use Rattle.rasta_verdict.specs.Proposed.{BeginsOutcome, IsAudit, IsBuild};
@@ -11,8 +11,8 @@ ghost use Rattle.rasta_verdict.specs.Proposed.{BeginsOutcome, IsAudit, IsBuild};
 use crate::proposed::{judge_proposed, write_found};
 use crate::verdict::write_verdict;
 use rasta_check::store;
+use rasta_line::{is_refusal, write_refusal};
 use rasta_pdu::{Fault, Params, Sink, Source};
-use rasta_show::{is_refusal, write_refusal};
 use std::alloc::Global;
 
 /// Reads a capture up to the window's last record, and writes a verdict on it, and nothing else: the run

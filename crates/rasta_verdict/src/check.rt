@@ -3,13 +3,13 @@ ghost use Rattle.std.specs.Prelude.{◌≡◌, ◌⊎◌, IfErr, IfOk, OnErr};
 ghost use Rattle.rasta_pcap.specs.Extent.{ReadsUpToRecord};
 ghost use Rattle.rasta_pcap.specs.Fault.{write_failed};
 ghost use Rattle.rasta_verdict.specs.Claims.{ClaimsHeadline};
-ghost use Rattle.rasta_show.specs.Runs.{IsRunFault};
+ghost use Rattle.rasta_line.specs.Runs.{IsRunFault};
 ghost use Rattle.rasta_verdict.specs.Verdict.{BeginsVerdict, IsVerdict, WritesVerdict};
 
 use crate::verdict::{judge, write_verdict};
 use rasta_check::store;
+use rasta_line::{is_refusal, write_refusal};
 use rasta_pdu::{Fault, Params, Sink, Source};
-use rasta_show::{is_refusal, write_refusal};
 use std::alloc::Global;
 use std::convert::AsSlice;
 

@@ -14,9 +14,9 @@ use crate::verdict::{Verdict, judge_scripts, unscripted};
 use rasta_build::propose_lists;
 use rasta_cert::write;
 use rasta_check::Store;
+use rasta_line::refusal_line;
 use rasta_pcap::write_all;
 use rasta_pdu::{Fault, Sink};
-use rasta_show::refusal_line;
 use std::alloc::Global;
 
 /// The verdict on what crossed and a certificate that is proposed for it: [`Fault::NOT_FOUND`] where none is

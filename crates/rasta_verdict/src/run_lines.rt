@@ -4,9 +4,8 @@ ghost use Rattle.rasta_verdict.specs.RunText.{copy_text, make_text, take_text};
 
 use rasta_cert::begin_with_why;
 use rasta_end::Why;
-use rasta_line::Line;
+use rasta_line::{Line, end_name};
 use rasta_pdu::Side;
-use rasta_show::end_name;
 
 /// When and why an end made a packet.
 #[derive(Clone, Copy)]

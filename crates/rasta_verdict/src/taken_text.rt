@@ -2,14 +2,13 @@
 ghost use Rattle.std.specs.Prelude.{◌≡◌, ◌∷◌, [], map, decimal};
 ghost use Rattle.rasta_pcap.specs.Devices.{Writes, AsWritten};
 ghost use Rattle.rasta_check.specs.Verdict.Listed.{listed_of};
-ghost use Rattle.rasta_show.specs.Lines.{words_before};
+ghost use Rattle.rasta_line.specs.Texts.{words_before};
 ghost use Rattle.rasta_verdict.specs.Verdict.{taken_count_line, taken_line, taken_lines, taken_text};
 
 use rasta_check::Taken;
-use rasta_line::Line;
+use rasta_line::{Line, end_name, write_message};
 use rasta_pcap::write_all;
 use rasta_pdu::{Fault, Side, Sink};
-use rasta_show::{end_name, write_message};
 
 // Makes the line that says how many messages a side took.
 #[tactic(auto, unfolding(crate::specs::Verdict::taken_count_line))]

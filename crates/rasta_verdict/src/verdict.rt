@@ -17,10 +17,9 @@ use crate::run_text::write_run;
 use crate::taken_text::write_taken;
 use rasta_cert::{Certificate, read};
 use rasta_check::{Report, Store, check_store};
-use rasta_line::Line;
+use rasta_line::{Line, refusal_line};
 use rasta_pcap::write_all;
 use rasta_pdu::{Fault, Side, Sink};
-use rasta_show::refusal_line;
 use std::alloc::Global;
 use std::convert::AsSlice;
 

@@ -4,7 +4,7 @@ use Rattle.std.specs.List.{AllZip}
 use Rattle.rasta_pcap.specs.declared.fault.Fault.{Fault}
 use Rattle.rasta_pcap.specs.Fault.{fault_at, not_found}
 use Rattle.rasta_pdu.specs.Params.{Parameters}
-use Rattle.rasta_show.specs.Lines.{refused_line}
+use Rattle.rasta_line.specs.Texts.{refused_line}
 use Rattle.rasta_check.specs.Capture.Crossing.{Crossing}
 use Rattle.rasta_check.specs.Capture.Reading.{crossing_of}
 use Rattle.rasta_check.proofs.Verdict.FileVerdicts.{same_params}

@@ -4,7 +4,7 @@ use Rattle.std.specs.List.{AllZip}
 use Rattle.rasta_pcap.specs.Capture.{max_records, reading_of}
 use Rattle.rasta_pcap.specs.Captured.{captured_in}
 use Rattle.rasta_pdu.specs.Params.{Parameters}
-use Rattle.rasta_show.specs.Lines.{refused_line}
+use Rattle.rasta_line.specs.Texts.{refused_line}
 use Rattle.rasta_verdict.specs.Decided.{Decides}
 use Rattle.rasta_verdict.specs.Proposed.{IsAudit}
 use Rattle.seatmelon_audit.specs.Answers.{IsAnswer}

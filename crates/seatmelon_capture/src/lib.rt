@@ -3,9 +3,11 @@
 #![tactic(auto)]
 
 mod header;
+mod interface_type;
 mod keeping;
 mod link_type;
 
 pub use header::{FileHeader, header_in};
+pub use interface_type::write_other_link_type;
 pub use keeping::Keeping;
 pub use link_type::link_type_name;

@@ -6,9 +6,9 @@ use crate::failure::Failure;
 use crate::output::{finish, output_to};
 use rasta_pcap::{Fault, Sink};
 use rasta_pdu::Params;
-use seatmelon_lines::write_words;
 use seatmelon_pcapng::Format;
 use seatmelon_survey::{Connection, Survey, write_fault};
+use seatmelon_text::write_words;
 use std::alloc::Global;
 use std::io::Write;
 

@@ -9,8 +9,8 @@ use crate::quiet_reasons::write_no_point;
 use rasta_pcap::{Fault, Sink};
 use rasta_pdu::Kind;
 use rasta_udp::Channel;
-use seatmelon_lines::{Part, numbered, parts, write_parts, write_parts_if, write_words};
 use seatmelon_packets::{LengthFit, Offer, likeliest};
+use seatmelon_text::{Part, numbered, parts, write_parts, write_parts_if, write_words};
 
 // How many channels a parameter file may have.
 const MOST_CHANNELS: u64 = 4;
@@ -71,8 +71,8 @@ pub fn write_number<W: Sink>(writer: &mut W, key: &'static str, value: u64) -> R
 
 fn write_ids<W: Sink>(
     writer: &mut W,
-    client: &[Part],
-    server: &[Part],
+    client: &[Part<'_>],
+    server: &[Part<'_>],
     roles: Roles<'_>,
 ) -> Result<(), Fault>
     ensures written { AsWritten result (W.failure_count writer.old) (W.failure_count writer.new) }

@@ -8,7 +8,7 @@ use crate::quiet_draft::write_quiet_points;
 use crate::quiet_reasons::write_no_point;
 use rasta_pcap::{Fault, Sink, write_all};
 use rasta_pdu::{Channel, Params};
-use seatmelon_lines::{parts, write_parts, write_words};
+use seatmelon_text::{parts, write_parts, write_words};
 
 // Where a value is from.
 const FROM_PARAMS: &str = "from PARAMS\n";

@@ -3,7 +3,7 @@ ghost use Rattle.rasta_pcap.specs.Devices.{AsWritten};
 
 use crate::quiet::{LastData, LastSent, Point, QuietPoints};
 use rasta_pcap::{Fault, Sink};
-use seatmelon_lines::{numbered, parts, write_parts, write_parts_if};
+use seatmelon_text::{numbered, parts, write_parts, write_parts_if};
 
 // What stands before the record of an end's last PDU.
 const SEEN_IN: &str = " } # its last PDU is in record ";

@@ -5,7 +5,7 @@ use crate::channel::End;
 use crate::connection::Connection;
 use crate::quiet::{LastSent, QuietPoints, Reason, RuledOut};
 use rasta_pcap::{Fault, Sink};
-use seatmelon_lines::{parts, write_parts};
+use seatmelon_text::{parts, write_parts};
 
 // What a point lacks at the end of the capture.
 #[derive(Clone, Copy)]

@@ -6,7 +6,6 @@ mod choice;
 mod counts;
 mod decoding;
 mod line;
-mod link_types;
 mod listing;
 mod payload;
 mod sight;

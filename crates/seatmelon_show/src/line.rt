@@ -6,11 +6,12 @@ use crate::counts::Counts;
 use crate::decoding::Decoding;
 use crate::payload::write_payload;
 use crate::sight::{Found, Sight};
-use rasta_pcap::{CaptureTime, Fault, Side, Sink};
+use rasta_line::end_name;
+use rasta_pcap::{CaptureTime, Fault, Sink};
 use rasta_pdu::{Fields, Params, payload_in};
 use rasta_udp::Datagram;
-use seatmelon_lines::{parts, write_parts, write_words};
 use seatmelon_pcapng::{Format, Refusal};
+use seatmelon_text::{parts, write_parts, write_words};
 
 // How many characters the columns have.
 const RECORD: usize = 8;
@@ -151,14 +152,6 @@ fn write_record<W: Sink>(
     }
 }
 
-// The name of an end.
-fn name_of_end(side: Side) -> &'static str {
-    match side {
-        Side::Client => "client",
-        Side::Server => "server",
-    }
-}
-
 // Writes channel, sender, fields and payload of a datagram.
 fn write_datagram<W: Sink>(
     writer: &mut W,
@@ -173,7 +166,7 @@ fn write_datagram<W: Sink>(
         Cell::Number(Some(u32::from(found.channel))),
         CHANNEL,
     )?;
-    write_cell(writer, Cell::Words(name_of_end(found.side)), SENDER)?;
+    write_cell(writer, Cell::Words(end_name(Some(found.side))), SENDER)?;
     write_fields(writer, &Fields::of(found.payload))?;
     write_rest(writer, params, found.payload, decoding)
 }

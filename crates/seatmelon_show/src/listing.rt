@@ -13,11 +13,11 @@ use crate::choice::Choice;
 use crate::counts::{Counts, NO_COUNTS};
 use crate::decoding::decoding_of;
 use crate::line::{write_counts, write_end, write_head, write_line};
-use crate::link_types::write_other_link_type;
 use crate::sight::{Sight, sight_in};
 use rasta_pcap::stream::RecordReader;
 use rasta_pcap::{Buffered, CaptureTime, Fault, Record, Sink, Source};
 use rasta_pdu::Params;
+use seatmelon_capture::write_other_link_type;
 use seatmelon_pcapng::{Capture, Format};
 use std::alloc::Global;
 

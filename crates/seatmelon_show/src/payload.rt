@@ -4,7 +4,7 @@ ghost use Rattle.rasta_pcap.specs.Devices.{AsWritten};
 use rasta_pcap::{Fault, Sink};
 use rasta_pdu::fields::{ending_in, opening_in};
 use rasta_pdu::{Kind, Messages};
-use seatmelon_lines::{parts, write_parts, write_words};
+use seatmelon_text::{parts, write_parts, write_words};
 
 // How many messages there are, and how many bytes these have together.
 #[derive(Clone, Copy)]

@@ -6,7 +6,7 @@ use crate::findings::Survey;
 use rasta_pcap::{Fault, Sink};
 use rasta_udp::Channel;
 use seatmelon_connections::Connection;
-use seatmelon_lines::{parts, write_parts, write_parts_if, write_words};
+use seatmelon_text::{parts, write_parts, write_parts_if, write_words};
 
 // How many pairs of ends are told one by one that are in no connection.
 const MOST_TOLD: u64 = 32;

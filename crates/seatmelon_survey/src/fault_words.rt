@@ -2,8 +2,8 @@
 ghost use Rattle.rasta_pcap.specs.Devices.{AsWritten};
 
 use rasta_pcap::{Fault, Sink};
-use seatmelon_lines::{parts, write_parts, write_parts_if, write_words};
 use seatmelon_pcapng::{Format, Refusal};
+use seatmelon_text::{parts, write_parts, write_parts_if, write_words};
 
 /// What a fault of a capture says, before the number of the record and behind it; a fault of the file's header names no
 /// record.

@@ -14,9 +14,9 @@ use rasta_pcap::{CaptureTime, Fault, Record, Sink};
 use rasta_pdu::Kind;
 use seatmelon_capture::FileHeader;
 use seatmelon_connections::{Arrival, Connection};
-use seatmelon_lines::write_words;
 use seatmelon_packets::{Packet, Recognizer, Sight, Way, sight_in};
 use seatmelon_pcapng::Format;
+use seatmelon_text::write_words;
 use std::alloc::Global;
 use std::marker::Model;
 

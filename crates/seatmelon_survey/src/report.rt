@@ -2,12 +2,12 @@
 ghost use Rattle.rasta_pcap.specs.Devices.{AsWritten};
 
 use crate::findings::Survey;
-use crate::link_types::write_other_link_type;
 use rasta_pcap::{Fault, Sink};
 use rasta_pdu::Kind;
+use seatmelon_capture::write_other_link_type;
 use seatmelon_connections::{ChannelCounts, Connection, NumberCounts, Party};
-use seatmelon_lines::{numbered, parts, write_parts, write_parts_if, write_words};
 use seatmelon_packets::{FitCount, Lengths};
+use seatmelon_text::{numbered, parts, write_parts, write_parts_if, write_words};
 
 /// Writes how much was read.
 pub fn write_summary<W: Sink>(writer: &mut W, survey: &Survey) -> Result<(), Fault>

@@ -5,8 +5,9 @@ ghost use Rattle.rasta_pcap.specs.Fault.{write_failed};
 use crate::counts::Counts;
 use rasta_pcap::{CaptureTime, Fault, Side, Sink};
 use seatmelon_audit::{Answer, Audit, Conveyed, Explained, Refusal, Subject};
+use seatmelon_capture::write_other_link_type;
 use seatmelon_pcapng::Format;
-use seatmelon_survey::{write_fault, write_other_link_type};
+use seatmelon_survey::write_fault;
 use seatmelon_text::{parts, write_parts, write_words};
 
 // What so many are called.

@@ -4,6 +4,7 @@
 mod blocks;
 mod code_lengths;
 mod explained;
+mod fault_words;
 mod frames;
 mod gap;
 mod json;

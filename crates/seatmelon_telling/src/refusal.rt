@@ -4,6 +4,7 @@ ghost use Rattle.rasta_pcap.specs.Fault.{write_failed};
 
 use crate::blocks::{block_refused, meaning_of_block};
 use crate::code_lengths::write_code_lengths;
+use crate::fault_words::words_of;
 use crate::frames::{write_link_type, write_snapshot};
 use crate::gap::write_gap;
 use crate::layout::write_payload_due;
@@ -11,7 +12,7 @@ use crate::packet_text::{write_codes, write_datagram, write_differences, write_p
 use crate::page::{write_judged, write_place, write_sighting, write_without};
 use crate::rule::write_rule;
 use crate::supposed::{write_supposed, write_supposed_messages};
-use crate::words::{Hint, fits_none, hint_of, meaning_in, meaning_of};
+use crate::words::{Hint, fits_none, hint_of, meaning_in};
 use rasta_pcap::{CaptureTime, Fault, Sink};
 use seatmelon_account::{
     Account, Crossed, Extent, FirstCopy, NamedPacket, Refusal, RefusedEntry, RefusedPacket,
@@ -148,7 +149,7 @@ fn write_trouble<W: Sink>(
         Trouble::SafetyLength(due) => write_due(writer, "length field of the safety layer", *due),
         Trouble::Type(found) => write_type_due(writer, *found),
         Trouble::Payload(layout) => write_payload_due(writer, layout),
-        Trouble::Other => write_parts(writer, &parts!["  ", meaning_of(fault.number), "\n"]),
+        Trouble::Other => write_parts(writer, &parts!["  ", words_of(fault.number).meaning, "\n"]),
     }
 }
 

@@ -2,8 +2,8 @@
 ghost use Rattle.std.specs.Prelude.{◌≡◌, IfErr};
 ghost use Rattle.rasta_pcap.specs.Fault.{write_failed};
 
+use crate::fault_words::words_of;
 use crate::page::write_place;
-use crate::words::meaning_of;
 use rasta_build::Rule;
 use rasta_pcap::{Fault, Side, Sink};
 use rasta_pdu::Pdu;
@@ -52,7 +52,7 @@ fn sentence_on(rule: Rule, pdu: &Pdu<'_>, peer: Side) -> [Part<'static>; 5] {
             "it wants a PDU of the ",
             Part::End(peer),
             " to be taken before, but ",
-            meaning_of(fault),
+            words_of(fault).meaning,
         ),
         Rule::NothingToAnswer => (
             "no retransmission request of the ",
@@ -74,7 +74,7 @@ fn sentence_on(rule: Rule, pdu: &Pdu<'_>, peer: Side) -> [Part<'static>; 5] {
             "",
         ),
         Rule::MakeRefused { fault } | Rule::Deadline { fault, .. } => {
-            (meaning_of(fault), NONE, "", "")
+            (words_of(fault).meaning, NONE, "", "")
         }
         _ => return confirming(rule, pdu.cs(), peer),
     };

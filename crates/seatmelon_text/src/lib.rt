@@ -4,6 +4,10 @@
 pub mod json;
 mod room;
 mod text;
+mod time;
 
 pub use room::Room;
-pub use text::{Part, put_parts, width, write_part, write_parts, write_words};
+pub use text::{
+    Part, numbered, put_parts, width, write_part, write_parts, write_parts_if, write_words,
+};
+pub use time::write_time;

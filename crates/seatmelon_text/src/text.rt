@@ -1,14 +1,14 @@
 //! Lines of plain text.
 ghost use Rattle.std.specs.Prelude.{◌≡◌, ◌≤◌, ◌∷◌, [], length, IfErr};
 ghost use Rattle.hex.specs.Hex.{encode_lower};
-ghost use Rattle.rasta_pcap.specs.Fault.{write_failed};
+ghost use Rattle.rasta_pcap.specs.Devices.{AsWritten};
 
 use crate::room::Room;
+use crate::time::{TIME, date_in, time_in, time_of_day_in};
 use itoa::Buffer;
+use rasta_line::{end_name, write_hex};
 use rasta_pcap::{CaptureTime, Fault, FractionUnit, Side, Sink, write_all};
-use rasta_show::write_hex;
 use rasta_udp::Endpoint;
-use seatmelon_lines::{TIME, date_in, time_in, time_of_day_in, write_digits, write_endpoint};
 
 /// A part of a line.
 #[derive(Clone, Copy)]
@@ -45,6 +45,9 @@ pub enum Part<'a> {
 
     /// The name of an end.
     End(Side),
+
+    /// Four digits.
+    Version([u8; 4]),
 }
 
 impl<'a> From<&'a str> for Part<'a> {
@@ -95,6 +98,12 @@ impl<'a> From<Side> for Part<'a> {
     }
 }
 
+impl<'a> From<[u8; 4]> for Part<'a> {
+    fn from(digits: [u8; 4]) -> Part<'a> {
+        Part::Version(digits)
+    }
+}
+
 /// The parts of a line: words, numbers and what else has a form of its own, as they follow each other.
 #[macro_export]
 macro_rules! parts {
@@ -103,9 +112,11 @@ macro_rules! parts {
     };
 }
 
+const ZEROS: [u8; 6] = *b"000000";
+
 // Puts a number.
 fn put_number<W: Sink>(writer: &mut W, room: &mut Room, n: u64) -> Result<(), Fault>
-    ensures err { IfErr result (λ f. f ≡ write_failed) }
+    ensures written { AsWritten result (W.failure_count writer.old) (W.failure_count writer.new) }
 {
     let mut buffer = Buffer::new();
     room.put(writer, buffer.format(n).as_bytes())
@@ -125,7 +136,7 @@ pub(crate) fn digits_of_byte(byte: u8) -> [u8; 2]
 
 // Puts bytes as text: a backslash is doubled, and a byte that isn't printable is told by its digits.
 fn put_text<W: Sink>(writer: &mut W, room: &mut Room, bytes: &[u8]) -> Result<(), Fault>
-    ensures err { IfErr result (λ f. f ≡ write_failed) }
+    ensures written { AsWritten result (W.failure_count writer.old) (W.failure_count writer.new) }
 {
     for byte in bytes {
         match *byte {
@@ -142,41 +153,44 @@ fn put_text<W: Sink>(writer: &mut W, room: &mut Room, bytes: &[u8]) -> Result<()
 
 // Puts bytes in hexadecimal digits, which are spelled many at once.
 fn put_hex<W: Sink>(writer: &mut W, room: &mut Room, bytes: &[u8]) -> Result<(), Fault>
-    ensures err { IfErr result (λ f. f ≡ write_failed) }
+    ensures written { AsWritten result (W.failure_count writer.old) (W.failure_count writer.new) }
 {
     room.write(writer)?;
     write_hex(bytes, writer)
 }
 
-// The name of an end.
-fn name_of_end(side: Side) -> &'static str {
-    match side {
-        Side::Client => "client",
-        Side::Server => "server",
-    }
-}
-
 // Puts so many nanoseconds in milliseconds, with six digits behind the point.
 fn put_milliseconds<W: Sink>(writer: &mut W, room: &mut Room, nanoseconds: u64) -> Result<(), Fault>
-    ensures err { IfErr result (λ f. f ≡ write_failed) }
+    ensures written { AsWritten result (W.failure_count writer.old) (W.failure_count writer.new) }
 {
     put_number(writer, room, nanoseconds / 1_000_000)?;
+    let mut buffer = Buffer::new();
+    let digits = buffer.format(nanoseconds % 1_000_000).as_bytes();
+    let missing = ZEROS.len().saturating_sub(digits.len());
     room.put(writer, b".")?;
-    room.write(writer)?;
-    write_digits(writer, (nanoseconds % 1_000_000) as u32, 6)
+    room.put(writer, &ZEROS[..missing])?;
+    room.put(writer, digits)
 }
 
-// Puts an address and a port.
+// Puts an address and a port, as `10.0.0.1:5000`.
 fn put_endpoint<W: Sink>(writer: &mut W, room: &mut Room, endpoint: Endpoint) -> Result<(), Fault>
-    ensures err { IfErr result (λ f. f ≡ write_failed) }
+    ensures written { AsWritten result (W.failure_count writer.old) (W.failure_count writer.new) }
 {
-    room.write(writer)?;
-    write_endpoint(writer, endpoint)
+    let [first, second, third, fourth] = endpoint.address;
+    put_number(writer, room, u64::from(first))?;
+    room.put(writer, b".")?;
+    put_number(writer, room, u64::from(second))?;
+    room.put(writer, b".")?;
+    put_number(writer, room, u64::from(third))?;
+    room.put(writer, b".")?;
+    put_number(writer, room, u64::from(fourth))?;
+    room.put(writer, b":")?;
+    put_number(writer, room, u64::from(endpoint.port))
 }
 
 // Puts a part.
 fn put_part<W: Sink>(writer: &mut W, room: &mut Room, part: Part<'_>) -> Result<(), Fault>
-    ensures err { IfErr result (λ f. f ≡ write_failed) }
+    ensures written { AsWritten result (W.failure_count writer.old) (W.failure_count writer.new) }
 {
     match part {
         Part::Words(words) => room.put(writer, words.as_bytes()),
@@ -198,13 +212,14 @@ fn put_part<W: Sink>(writer: &mut W, room: &mut Room, part: Part<'_>) -> Result<
         }
         Part::Milliseconds(nanoseconds) => put_milliseconds(writer, room, nanoseconds),
         Part::Endpoint(endpoint) => put_endpoint(writer, room, endpoint),
-        Part::End(side) => room.put(writer, name_of_end(side).as_bytes()),
+        Part::End(side) => room.put(writer, end_name(Some(side)).as_bytes()),
+        Part::Version(digits) => room.put(writer, &digits),
     }
 }
 
 /// Puts parts into a room, one after the other, and writes what is there where they don't fit.
 pub fn put_parts<W: Sink>(writer: &mut W, room: &mut Room, parts: &[Part<'_>]) -> Result<(), Fault>
-    ensures err { IfErr result (λ f. f ≡ write_failed) }
+    ensures written { AsWritten result (W.failure_count writer.old) (W.failure_count writer.new) }
 {
     for part in parts {
         put_part(writer, room, *part)?;
@@ -214,23 +229,43 @@ pub fn put_parts<W: Sink>(writer: &mut W, room: &mut Room, parts: &[Part<'_>]) -
 
 /// Writes parts, one after the other.
 pub fn write_parts<W: Sink>(writer: &mut W, parts: &[Part<'_>]) -> Result<(), Fault>
-    ensures err { IfErr result (λ f. f ≡ write_failed) }
+    ensures written { AsWritten result (W.failure_count writer.old) (W.failure_count writer.new) }
 {
     let mut room = Room::new();
     put_parts(writer, &mut room, parts)?;
     room.write(writer)
 }
 
+/// Writes parts if there is a reason to.
+pub fn write_parts_if<W: Sink>(
+    writer: &mut W,
+    applies: bool,
+    parts: &[Part<'_>],
+) -> Result<(), Fault>
+    ensures written { AsWritten result (W.failure_count writer.old) (W.failure_count writer.new) }
+{
+    if applies {
+        write_parts(writer, parts)
+    } else {
+        Ok(())
+    }
+}
+
+/// A line that ends with a number.
+pub fn numbered(words: &'static str, n: u64) -> [Part<'static>; 3] {
+    parts![words, n, "\n"]
+}
+
 /// Writes a part.
 pub fn write_part<W: Sink>(writer: &mut W, part: Part<'_>) -> Result<(), Fault>
-    ensures err { IfErr result (λ f. f ≡ write_failed) }
+    ensures written { AsWritten result (W.failure_count writer.old) (W.failure_count writer.new) }
 {
     write_parts(writer, &[part])
 }
 
 /// Writes words.
 pub fn write_words<W: Sink>(writer: &mut W, words: &str) -> Result<(), Fault>
-    ensures err { IfErr result (λ f. f ≡ write_failed) }
+    ensures written { AsWritten result (W.failure_count writer.old) (W.failure_count writer.new) }
 {
     write_all(writer, words.as_bytes())
 }
@@ -275,6 +310,7 @@ fn width_of(part: Part<'_>) -> usize {
         Part::Milliseconds(nanoseconds) => { digits_of(nanoseconds / 1_000_000).saturating_add(7) }
         Part::Endpoint(_) => 21,
         Part::End(_) => 6,
+        Part::Version(_) => 4,
     }
 }
 

@@ -2,7 +2,7 @@ use Rattle.std.proofs.Common.{ap, refl, sym}
 use Rattle.rasta_pcap.proofs.Extents.{HasRead-opened}
 use Rattle.rasta_pcap.proofs.Sending.{on_err_map, where_begun}
 use Rattle.rasta_show.specs.Show.{Shown, show_status, show_text, shown, status_after, text_from}
-use Rattle.rasta_show.specs.Runs.{WritesText}
+use Rattle.rasta_line.specs.Runs.{WritesText}
 use Rattle.rasta_show.specs.Shown.{status_left, text_left}
 use Rattle.rasta_show.proofs.Refusals.{broken_run, header_broken, header_refused}
 use Rattle.rasta_show.proofs.Showing.{refusal, text_from-fault}

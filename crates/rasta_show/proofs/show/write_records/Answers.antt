@@ -2,7 +2,7 @@ use Rattle.std.proofs.Common.{◌≡◌, ◌∙◌, ◌+◌, ◌-◌, ℕ, List,
 use Rattle.rasta_pcap.specs.Stream.{ReadsSo, count_in, order_in}
 use Rattle.rasta_pcap.proofs.Sending.{where_begun, where_failed}
 use Rattle.rasta_show.specs.Show.{packet, passed_over, refused, sight_of}
-use Rattle.rasta_show.specs.Runs.{WritesText}
+use Rattle.rasta_line.specs.Runs.{WritesText}
 use Rattle.rasta_show.specs.Shown.{packet_of, status_left, text_left}
 use Rattle.rasta_show.proofs.Bounds.{GoesUpToRecord-part, GoesUpToRecord-whole, HasReadMore-more}
 use Rattle.rasta_show.proofs.Refusals.{broken_run, where_broken, where_refused}

@@ -1,6 +1,6 @@
 use Rattle.std.proofs.Common.{sym}
 use Rattle.rasta_check.specs.Internals.Storing.{IsRefusedSo, IsStored}
-use Rattle.rasta_show.specs.Lines.{refused_line}
+use Rattle.rasta_line.specs.Texts.{refused_line}
 use Rattle.rasta_verdict.specs.Decided.{Decides}
 use Rattle.rasta_verdict.specs.Judged.{status_of_verdict, told_verdict}
 use Rattle.rasta_verdict.specs.Proposed.{IsBuild, built_text, capture_refused}

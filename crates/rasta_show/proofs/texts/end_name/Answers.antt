@@ -1,5 +1,0 @@
-use Rattle.std.proofs.Common.{rules}
-use Rattle.rasta_show.proofs.texts.end_name.Goals as goal
-
-pub returns-in-None-clause-text : goal.returns-in-None-clause-text
-returns-in-None-clause-text c = search rules
