@@ -27,7 +27,7 @@ impl Stop {
     {
         match self {
             Stop::Blocked(met) => Fault::at(Fault::NOT_FOUND, met.place.saturating_add(1)),
-            Stop::OutOfMemory => Fault::at(Fault::NO_MEMORY, 0),
+            Stop::OutOfMemory => Fault::no_memory(),
         }
     }
 }

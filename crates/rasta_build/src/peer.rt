@@ -5,8 +5,8 @@ ghost use Rattle.rasta_build.specs.Choices;
 ghost use Rattle.rasta_build.specs.Choices.{peer_quiet_sn, member_at, copy_at, is_before};
 ghost use Rattle.rasta_build.specs.Explaining;
 
-use rasta_check::SentList;
-use rasta_pdu::{Kind, Params, Pdu, Side};
+use rasta_check::{FirstCopy, SentList};
+use rasta_pdu::{Kind, Params, Side};
 
 /// Where the positions of a peer begin: after a quiet point its quiet PDU is position 0, and its sent list
 /// begins at 1.
@@ -37,7 +37,7 @@ impl Peer {
     }
 
     /// The place and the PDU at a position, if it crossed.
-    pub(crate) fn get<'a, S: SentList<'a>>(self, list: &S, position: u64) -> Option<(u32, Pdu<'a>)>
+    pub(crate) fn get<'a, S: SentList<'a>>(self, list: &S, position: u64) -> Option<FirstCopy<'a>>
         ensures { option_map copy_of result ≡ copy_at self.quiet_sn (S.content list.now) position }
     {
         let member = self.member(position)?;

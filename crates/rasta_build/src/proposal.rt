@@ -18,16 +18,16 @@ ghost use Rattle.rasta_build.specs.Stopping.{IsMet, IsNextStop, IsPassStop, IsSt
 use crate::obstacles::{Obstacle, Stop};
 use crate::script_builder::ScriptBuilder;
 use rasta_cert::Certificate;
-use rasta_check::{Sent, SentList};
+use rasta_check::{FirstCopy, Sent, SentList};
 use rasta_pdu::{Fault, Params, Pdu, Side};
 use std::alloc::Global;
 use std::marker::Model;
 
 /// The first copy that crossed first, of the next ones of both sides, with its side.
 fn first_of<'a>(
-    client: Option<(u32, Pdu<'a>)>,
-    server: Option<(u32, Pdu<'a>)>,
-) -> Option<(Side, (u32, Pdu<'a>))>
+    client: Option<FirstCopy<'a>>,
+    server: Option<FirstCopy<'a>>,
+) -> Option<(Side, FirstCopy<'a>)>
     ensures { option_map sided_copy result ≡ Choices.first_of (option_map copy_of client.entry) (option_map copy_of server.entry) }
 {
     match (client, server) {
@@ -206,7 +206,7 @@ pub fn find_obstacle<'a, S: SentList<'a>>(
     match pass_through(alloc, p, packets, client, server) {
         Ok(_) => Ok(None),
         Err(Stop::Blocked(met)) => Ok(Some(met)),
-        Err(Stop::OutOfMemory) => Err(Fault::at(Fault::NO_MEMORY, 0)),
+        Err(Stop::OutOfMemory) => Err(Fault::no_memory()),
     }
 }
 

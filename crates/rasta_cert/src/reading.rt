@@ -66,7 +66,7 @@ fn read_script<'a>(
             return Err(Fault::at(Fault::TOO_MANY_ENTRIES, line as u32));
         }
         if entries.push(entry).is_err() {
-            return Err(Fault::at(Fault::NO_MEMORY, 0));
+            return Err(Fault::no_memory());
         }
         rest = after;
     }

@@ -13,7 +13,7 @@ use rasta_pcap::{Fault, Sink, write_all};
 fn write_entries<W: Sink>(entries: &[Entry], writer: &mut W) -> Result<(), Fault>
     ensures out { Writes result (W.contents writer.old) (W.contents writer.new) (entries_text entries.now) }
     ensures valid { OnOk result (AreEntries entries.now) }
-    ensures written { AsWritten result (W.failure_count writer.old) (W.failure_count writer.new) }
+    ensures written { AsWritten W.failure_count result writer.old writer.new }
 {
     let mut line = Line::new();
     for entry in entries {
@@ -30,7 +30,7 @@ fn write_entries<W: Sink>(entries: &[Entry], writer: &mut W) -> Result<(), Fault
 pub fn write<W: Sink>(certificate: &Certificate, writer: &mut W) -> Result<(), Fault>
     ensures out { Writes result (W.contents writer.old) (W.contents writer.new) (certificate_text certificate.now) }
     ensures valid { OnOk result (IsCertificate certificate.now) }
-    ensures written { AsWritten result (W.failure_count writer.old) (W.failure_count writer.new) }
+    ensures written { AsWritten W.failure_count result writer.old writer.new }
 {
     write_all(writer, b"rasta-certificate 1\nclient\n")?;
     write_entries(certificate.client(), writer)?;

@@ -67,5 +67,5 @@ pub use Rattle.rasta_check.specs.Run.Moves.{Happened, Runs, does, starts}
 pub use Rattle.rasta_check.specs.Script.Following.{Advances, ScriptCursor, Follows, Leads, at_start, makes_next, takes_next}
 pub use Rattle.rasta_check.specs.Verdict.Listed.{listed_of, messages_of_unit, messages_taken, numbered_from}
 pub use Rattle.rasta_check.specs.Verdict.Report.{BothFit, Explained, explained, report_of}
-pub use Rattle.rasta_check.specs.declared.crossing_store.StoredPacket.{StoredPacket}
+pub use Rattle.rasta_check.specs.declared.packet_store.StoredPacket.{StoredPacket}
 pub use Rattle.rasta_check.proofs.Lists.{all_front, all_push, begins_with, get_front, get_front_within, get_mapped, get_next, get_past, get_push, get_push_cases, map_at, map_push, mapped_some, none_within, slice_get_some}

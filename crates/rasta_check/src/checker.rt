@@ -13,12 +13,12 @@ ghost use Rattle.rasta_check.specs.Verdict.Report.{BothFit, Explains, IsFileVerd
 ghost use Rattle.rasta_check.specs.Capture.Faults.{CrossedIn};
 ghost use Rattle.rasta_check.specs.Verdict.Headline.{Headline, IsSharp};
 
-use crate::crossing::Sent;
-use crate::crossing_store::Store;
 use crate::follower::follow;
-use crate::reading::sent;
+use crate::packet_store::Store;
 use crate::report::Report;
 use crate::sent_list::SentList;
+use crate::sent_packets::Sent;
+use crate::sent_reading::sent;
 use crate::surely_taken::{proof_places, taken_list};
 use rasta_cert::{Certificate, Entry};
 use rasta_pcap::{Fault, Side};

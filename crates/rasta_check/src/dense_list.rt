@@ -4,7 +4,7 @@ ghost use Rattle.rasta_check.specs.Capture.SentLists.{FirstCopy};
 ghost use Rattle.rasta_check.specs.Capture.Lists.{AreMarks, IsOrdered, copy_of};
 
 use crate::place_table::PlaceTable;
-use crate::sent_list::SentList;
+use crate::sent_list::{FirstCopy, SentList};
 use rasta_pdu::Pdu;
 use std::alloc::{AllocError, Global};
 use std::marker::Model;
@@ -12,7 +12,7 @@ use std::marker::Model;
 /// A sent list as a vector: the position of a number is its distance from the first number.
 #[derive(Drop)]
 pub struct DenseList<'a> {
-    copies: Vec<(u32, Pdu<'a>)>,
+    copies: Vec<FirstCopy<'a>>,
     places: PlaceTable,
 }
 
@@ -72,7 +72,7 @@ impl<'a> SentList<'a> for DenseList<'a> {
         self.copies.len() as u32
     }
 
-    fn get(&self, position: u32) -> Option<(u32, Pdu<'a>)> {
+    fn get(&self, position: u32) -> Option<FirstCopy<'a>> {
         self.copies.get(position as usize).copied()
     }
 

@@ -9,7 +9,7 @@ ghost use Rattle.rasta_check.specs.Script.Following.{at_start};
 ghost use Rattle.rasta_check.specs.Internals.Checking;
 ghost use Rattle.rasta_check.specs.Internals.Checking.{cursor_unless, next_cursor, take_entry, make_entry, taken_there, made_there, moved_to, IsRefusedFollow};
 
-use crate::sent_list::SentList;
+use crate::sent_list::{FirstCopy, SentList};
 use rasta_cert::Entry;
 use rasta_end::{End, Why};
 use rasta_pcap::{Fault, Side};
@@ -73,7 +73,7 @@ impl<'a> Follower<'a> {
         peer: &S,
         slot: u32,
         number: u32,
-    ) -> Result<(u32, Pdu<'a>), u8>
+    ) -> Result<FirstCopy<'a>, u8>
         ensures { MatchResult result
             (λ r. take_entry self.now.params packets (S.content peer.now) self.now.cursor slot number
             ≡ cursor_unless (take_fault self.now.params self.now.cursor.state self.now.cursor.state.clock)

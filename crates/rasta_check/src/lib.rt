@@ -3,33 +3,33 @@
 #![tactic(auto)]
 
 mod checker;
-mod crossing;
-mod crossing_store;
 mod datagrams;
 mod dense_list;
 mod follower;
 pub mod laws;
 mod map_list;
+mod packet_store;
 mod passage;
 mod place_table;
-mod reading;
 mod report;
 mod sent_list;
+mod sent_packets;
+mod sent_reading;
 mod span_list;
 mod store_builder;
-mod storing;
+mod store_reading;
 mod surely_taken;
 
 pub use checker::{check, check_lists, check_sent, check_store};
-pub use crossing::Sent;
-pub use crossing_store::Store;
 pub use dense_list::DenseList;
 pub use map_list::MapList;
+pub use packet_store::Store;
 pub use passage::Passage;
 pub use rasta_pcap::{Fault, Side, Sink, Source};
-pub use reading::sent;
 pub use report::{Report, Taken, TakenList};
-pub use sent_list::SentList;
+pub use sent_list::{FirstCopy, SentList};
+pub use sent_packets::Sent;
+pub use sent_reading::sent;
 pub use span_list::SpanList;
 pub use store_builder::StoreBuilder;
-pub use storing::store;
+pub use store_reading::store;

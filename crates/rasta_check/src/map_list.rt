@@ -6,7 +6,7 @@ ghost use Rattle.rasta_check.specs.Capture.PacketFaults.{copy_with};
 ghost use Rattle.rasta_check.specs.Capture.Lists.{AreMarks, IsOrdered, copies_in, copy_of, numbers_of};
 
 use crate::place_table::PlaceTable;
-use crate::sent_list::SentList;
+use crate::sent_list::{FirstCopy, SentList};
 use indexmap::IndexMap;
 use rasta_pdu::Pdu;
 use std::alloc::{AllocError, Global};
@@ -15,7 +15,7 @@ use std::marker::Model;
 /// A sent list as a map from redundancy number to first copy, in the order of crossing.
 #[derive(Drop)]
 pub struct MapList<'a> {
-    copies: IndexMap<u32, (u32, Pdu<'a>)>,
+    copies: IndexMap<u32, FirstCopy<'a>>,
     places: PlaceTable,
 }
 
@@ -74,7 +74,7 @@ impl<'a> SentList<'a> for MapList<'a> {
         self.copies.len() as u32
     }
 
-    fn get(&self, position: u32) -> Option<(u32, Pdu<'a>)> {
+    fn get(&self, position: u32) -> Option<FirstCopy<'a>> {
         let (_, copy) = self.copies.get_index(position as usize)?;
         Some(*copy)
     }

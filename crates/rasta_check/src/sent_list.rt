@@ -5,6 +5,9 @@ ghost use Rattle.rasta_check.specs.Capture.Lists.{IsOrdered, copy_of, position_o
 
 use rasta_pdu::Pdu;
 
+/// The first copy of a PDU: its place among the packets, counted from 0, and the PDU.
+pub type FirstCopy<'a> = (u32, Pdu<'a>);
+
 /// The first copies of the packets that one side sent, in the order in which they crossed: each has a
 /// place among the packets, counted from 0, and a PDU, whose slices are slices of the capture or of a store.
 ///
@@ -20,7 +23,7 @@ pub trait SentList<'a> {
         ensures ordered { IsOrdered (content self.now) };
 
     /// The place and the PDU at a position.
-    fn get(&self, position: u32) -> Option<(u32, Pdu<'a>)>
+    fn get(&self, position: u32) -> Option<FirstCopy<'a>>
         ensures value { option_map copy_of result ≡ slice_get (content self.now) position }
         ensures ordered { IsOrdered (content self.now) };
 

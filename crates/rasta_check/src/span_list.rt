@@ -3,10 +3,9 @@ ghost use Rattle.std.specs.Prelude.{◌≡◌, List};
 ghost use Rattle.rasta_check.specs.Capture.SentLists.{FirstCopy};
 ghost use Rattle.rasta_check.specs.Capture.Crossing.{sent_by};
 
-use crate::crossing_store::Store;
-use crate::sent_list::SentList;
+use crate::packet_store::Store;
+use crate::sent_list::{FirstCopy, SentList};
 use rasta_pcap::Side;
-use rasta_pdu::Pdu;
 use std::marker::Model;
 
 /// A side's sent list in a [`Store`], whose PDUs are read where they are asked for.
@@ -40,7 +39,7 @@ impl<'a> SentList<'a> for SpanList<'a> {
         self.store.count(self.side)
     }
 
-    fn get(&self, position: u32) -> Option<(u32, Pdu<'a>)> {
+    fn get(&self, position: u32) -> Option<FirstCopy<'a>> {
         self.store.get(self.side, position)
     }
 

@@ -6,7 +6,7 @@ ghost use Rattle.rasta_check.specs.Capture.SentLists.{IsRecorded};
 ghost use Rattle.rasta_check.specs.Capture.Reading.{after_packet, after_record, packet_at};
 ghost use Rattle.rasta_check.specs.Capture.Crossing.{nothing_crossed};
 
-use crate::crossing_store::Store;
+use crate::packet_store::Store;
 use crate::passage::Passage;
 use rasta_pcap::{Fault, Record};
 use rasta_pdu::Params;

@@ -70,7 +70,7 @@ fn form_of<'a>(matches: &ArgMatches<'a>) -> Option<Form<'a>> {
 
 fn failure_of(error: &Error) -> Failure {
     match error.kind() {
-        ErrorKind::OutOfMemory => Failure::Refused(Fault::at(Fault::NO_MEMORY, 0)),
+        ErrorKind::OutOfMemory => Failure::Refused(Fault::no_memory()),
         _ => Failure::Usage,
     }
 }
@@ -80,7 +80,7 @@ fn failure_of(error: &Error) -> Failure {
 /// Refused by [`Failure::Usage`] where they are none of the four forms, and by [`Fault::NO_MEMORY`].
 pub fn parse<'a>(alloc: Global, words: &'a [String]) -> Result<Form<'a>, Failure> {
     let Ok(command) = command(alloc) else {
-        return Err(Failure::Refused(Fault::at(Fault::NO_MEMORY, 0)));
+        return Err(Failure::Refused(Fault::no_memory()));
     };
     match command.try_get_matches_from(words) {
         Ok(matches) => form_of(&matches).ok_or(Failure::Usage),
@@ -92,7 +92,7 @@ pub fn parse<'a>(alloc: Global, words: &'a [String]) -> Result<Form<'a>, Failure
 ///
 /// Refused by [`Failure::Usage`] where one of them is no text, and by [`Fault::NO_MEMORY`].
 pub fn words<R: AllocGlobal + Env>(rt: &R) -> Result<Vec<String>, Failure> {
-    let no_memory = Failure::Refused(Fault::at(Fault::NO_MEMORY, 0));
+    let no_memory = Failure::Refused(Fault::no_memory());
     match std::env::args(rt) {
         Ok(words) => words.skip(1).collect(rt.alloc()).map_err(|_| no_memory),
         Err(error) if error.kind() == io::ErrorKind::OutOfMemory => Err(no_memory),

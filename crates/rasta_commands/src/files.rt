@@ -61,7 +61,7 @@ pub fn output<R: AllocGlobal + Print>(rt: &R) -> Result<Counted<BufWriter<Printe
 {
     match BufWriter::with_capacity(rt.alloc(), BUFFER, io::writer(rt)) {
         Ok(output) => Ok(Counted::new(output)),
-        Err(_) => Err(Fault::at(Fault::NO_MEMORY, 0)),
+        Err(_) => Err(Fault::no_memory()),
     }
 }
 

@@ -99,7 +99,7 @@ impl<'a> End<'a> {
     fn has_ended(&self) -> bool
         ensures { result ≡ MakeRule.has_ended self.now.state }
     {
-        self.phase.is_closed() & (!is_client(self.side) | (self.own.len() > 0))
+        self.phase.is_closed() && (!is_client(self.side) || self.own.len() > 0)
     }
 
     fn is_refused_row(&self, row: Option<MakeRow>) -> bool
@@ -135,8 +135,8 @@ impl<'a> End<'a> {
         ensures { result ≡ MakeRule.is_judged self.now.state kind }
     {
         let gives_up = kind.is(Kind::DisconnectionRequest)
-            & ((self.accepted == 0) & (is_client(self.side) & self.phase.is_start()));
-        !kind.is(Kind::ConnectionRequest) & !gives_up
+            && (self.accepted == 0 && (is_client(self.side) && self.phase.is_start()));
+        !kind.is(Kind::ConnectionRequest) && !gives_up
     }
 
     fn confirms_last(&self, cs: u32) -> bool
@@ -184,13 +184,13 @@ impl<'a> End<'a> {
             Some(Fault::CLOCK_DIFFERS)
         } else if clock < self.clock {
             Some(Fault::CLOCK_FALLS)
-        } else if !is_expired(why) & is_past(&self.params, self.deadline, clock) {
+        } else if !is_expired(why) && is_past(&self.params, self.deadline, clock) {
             Some(Fault::PAST_DEADLINE)
-        } else if is_expired(why) & is_early(&self.params, self.deadline, clock) {
+        } else if is_expired(why) && is_early(&self.params, self.deadline, clock) {
             Some(Fault::TOO_EARLY_TIMEOUT)
-        } else if is_judged & !self.confirms_last(pdu.cs()) {
+        } else if is_judged && !self.confirms_last(pdu.cs()) {
             Some(Fault::CONFIRMED_NUMBER)
-        } else if is_judged & !self.confirms_a_time(pdu.cts()) {
+        } else if is_judged && !self.confirms_a_time(pdu.cts()) {
             Some(Fault::CONFIRMED_TIME)
         } else if self.differs(row, pdu) {
             Some(Fault::RESEND_DIFFERS)

@@ -100,7 +100,7 @@ fn call<'a>(end: &mut End<'a>, pdu: &Pdu<'a>, step: &str) -> Option<Result<(), F
 // What a step with this PDU answers: where memory ran out, what a second call does.
 fn answer<'a>(end: &mut End<'a>, pdu: &Pdu<'a>, step: &str) -> Option<u8> {
     let mut answer = call(end, pdu, step)?;
-    if answer == Err(Fault::at(Fault::NO_MEMORY, 0)) {
+    if answer == Err(Fault::no_memory()) {
         answer = call(end, pdu, step)?;
     }
     Some(answer.err().map_or(0, |fault| fault.number))

@@ -284,7 +284,7 @@ fn is_appended(params: &Params, parts: &PduParts, out: &mut Vec<u8>) -> bool {
         return false;
     }
     let mut answer = encode(params, Side::Client, parts, out);
-    if answer == Err(Fault::at(Fault::NO_MEMORY, 0)) {
+    if answer == Err(Fault::no_memory()) {
         if out.len() != start {
             return false;
         }

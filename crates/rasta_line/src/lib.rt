@@ -8,4 +8,4 @@ mod texts;
 
 pub use line::Line;
 pub use messages::{write_hex, write_message};
-pub use texts::{end_name, is_refusal, refusal_line, write_refusal};
+pub use texts::{end_name, refusal_line, write_refusal};

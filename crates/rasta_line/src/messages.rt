@@ -54,7 +54,7 @@ fn digits<'a>(piece: &[u8], room: &'a mut [u8; 128]) -> &'a [u8]
 fn write_piece<W: Sink>(piece: &[u8], writer: &mut W) -> Result<(), Fault>
     requires { length piece.now ≤ 64 }
     ensures out { Writes result (W.contents writer.old) (W.contents writer.new) (encode_lower piece.now) }
-    ensures written { AsWritten result (W.failure_count writer.old) (W.failure_count writer.new) }
+    ensures written { AsWritten W.failure_count result writer.old writer.new }
 {
     let mut room = [0u8; 128];
     write_all(writer, digits(piece, &mut room))
@@ -63,7 +63,7 @@ fn write_piece<W: Sink>(piece: &[u8], writer: &mut W) -> Result<(), Fault>
 /// Writes bytes in lower case digits, two for each byte.
 pub fn write_hex<W: Sink>(bytes: &[u8], writer: &mut W) -> Result<(), Fault>
     ensures out { Writes result (W.contents writer.old) (W.contents writer.new) (encode_lower bytes.now) }
-    ensures written { AsWritten result (W.failure_count writer.old) (W.failure_count writer.new) }
+    ensures written { AsWritten W.failure_count result writer.old writer.new }
 {
     let mut rest = bytes;
     while !rest.is_empty() {
@@ -77,7 +77,7 @@ pub fn write_hex<W: Sink>(bytes: &[u8], writer: &mut W) -> Result<(), Fault>
 /// Writes a message; an empty one is a dot.
 pub fn write_message<W: Sink>(message: &[u8], writer: &mut W) -> Result<(), Fault>
     ensures out { Writes result (W.contents writer.old) (W.contents writer.new) (message_text message.now) }
-    ensures written { AsWritten result (W.failure_count writer.old) (W.failure_count writer.new) }
+    ensures written { AsWritten W.failure_count result writer.old writer.new }
 {
     if message.is_empty() {
         write_all(writer, b".")

@@ -1,7 +1,6 @@
 //! The names of ends, and the line of a refusal.
-ghost use Rattle.std.specs.Prelude.{◌≡◌, ◌≤◌, IfOk, length, nat_le};
+ghost use Rattle.std.specs.Prelude.{◌≡◌, ◌≤◌, IfOk, length};
 ghost use Rattle.rasta_pcap.specs.Devices.{Writes, AsWritten};
-ghost use Rattle.rasta_pcap.specs.Fault.{not_pcap};
 ghost use Rattle.rasta_line.specs.Texts.{end_text, refused_line};
 
 use crate::line::Line;
@@ -33,18 +32,11 @@ pub fn refusal_line(fault: Fault) -> Line
     line
 }
 
-/// Whether a capture's fault is told as its refusal; a lack of memory and a failed read are errors of the run.
-pub fn is_refusal(fault: Fault) -> bool
-    ensures { result ≡ nat_le not_pcap fault.number }
-{
-    fault.number >= Fault::NOT_PCAP
-}
-
 /// Writes the refusal that ends a text, and answers the status of the program, 1.
 pub fn write_refusal<W: Sink>(fault: Fault, writer: &mut W) -> Result<u8, Fault>
     ensures out { Writes result (W.contents writer.old) (W.contents writer.new) (refused_line fault) }
     ensures answered { IfOk result (λ status. status ≡ 1) }
-    ensures written { AsWritten result (W.failure_count writer.old) (W.failure_count writer.new) }
+    ensures written { AsWritten W.failure_count result writer.old writer.new }
 {
     write_all(writer, refusal_line(fault).as_bytes())?;
     Ok(1)

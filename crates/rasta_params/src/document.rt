@@ -252,7 +252,7 @@ fn read_channels(alloc: Global, values: &[Value]) -> Result<Vec<Channel>, Fault>
         match channel_in_value(value) {
             Ok(channel) => {
                 if channels.push(channel).is_err() {
-                    return Err(Fault::at(Fault::NO_MEMORY, 0));
+                    return Err(Fault::no_memory());
                 }
             }
             Err(fault) => return Err(fault),
@@ -313,7 +313,8 @@ fn channels_of(alloc: Global, table: &Table) -> Result<Vec<Channel>, Fault>
     Ok(channels)
 }
 
-const KNOWN_KEYS: [&str; 12] = [
+/// The keys of a parameter file that stand outside of every table of it, in the order of their numbers.
+pub const KEYS: [&str; 12] = [
     "client_id",
     "server_id",
     "code_length",
@@ -331,7 +332,7 @@ const KNOWN_KEYS: [&str; 12] = [
 fn has_known_keys(table: &Table) -> bool
     ensures { result ≡ are_among known_keys (table_view table.now) }
 {
-    has_keys_among(table, &KNOWN_KEYS)
+    has_keys_among(table, &KEYS)
 }
 
 // The parameters of these values, which are all in their ranges.
@@ -406,7 +407,7 @@ pub fn params(alloc: Global, text: &[u8]) -> Result<Params, Fault>
 {
     match toml::table_from_slice(alloc, text) {
         Ok(table) => read_parameters(alloc, &table),
-        Err(error) if error.is_memory() => Err(Fault::at(Fault::NO_MEMORY, 0)),
+        Err(error) if error.is_memory() => Err(Fault::no_memory()),
         Err(_) => Err(Fault::at(Fault::TOML, 0)),
     }
 }

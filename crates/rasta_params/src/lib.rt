@@ -7,4 +7,4 @@ mod key_values;
 mod quiet_table;
 mod start_words;
 
-pub use document::params;
+pub use document::{KEYS, params};

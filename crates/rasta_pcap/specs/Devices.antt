@@ -37,9 +37,10 @@ AppendsBeginning old new bytes = (front : List ℕ) × (rest : List ℕ) × Appe
 abbrev pub Writes : {A : Type 0} → Result A Fault → Option (List ℕ) → Option (List ℕ) → List ℕ → Type 0
 Writes result old new bytes = MatchResult result (λ _. Appends old new bytes) (λ _. AppendsBeginning old new bytes)
 
--- an answer by the counts of failed writes before and after: that none failed, or the fault of one that did
-abbrev pub AsWritten : {A : Type 0} → Result A Fault → ℕ → ℕ → Type 0
-AsWritten result old new = MatchResult result (λ _. new ≡ old) (λ f. (f ≡ write_failed) × HasFailed old new)
+-- an answer of a writer by the counts of its failed writes before and after: none failed, or the fault of one that did
+abbrev pub AsWritten : {W A : Type 0} → (W → ℕ) → Result A Fault → W → W → Type 0
+AsWritten count result old new =
+    MatchResult result (λ _. count new ≡ count old) (λ f. (f ≡ write_failed) × HasFailed (count old) (count new))
 
 -- the device of a counted one
 abbrev pub device_of : {D : Type 0} → Counted D → D

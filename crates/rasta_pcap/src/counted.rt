@@ -179,7 +179,7 @@ pub fn read_all<S: Source>(alloc: Global, reader: &mut S) -> Result<Vec<u8>, Fau
 /// Refused by [`Fault::WRITE_FAILED`], at the first call that fails or takes no byte.
 pub fn write_all<W: Sink>(writer: &mut W, bytes: &[u8]) -> Result<(), Fault>
     ensures out { Writes result (W.contents writer.old) (W.contents writer.new) bytes.now }
-    ensures written { AsWritten result (W.failure_count writer.old) (W.failure_count writer.new) }
+    ensures written { AsWritten W.failure_count result writer.old writer.new }
 
     // No byte is written by no call.
     ensures none { bytes.now ≡ [] → (result ≡ Ok tt) × (writer.new ≡ writer.old) }

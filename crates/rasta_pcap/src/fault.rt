@@ -1,6 +1,6 @@
 //! Faults and their names.
-ghost use Rattle.std.specs.Prelude.{◌≡◌, ◌≤◌, ◌<◌, length, Option, None};
-ghost use Rattle.rasta_pcap.specs.Fault.{fault_at, fault_of_end, name_of, other_side};
+ghost use Rattle.std.specs.Prelude.{◌≡◌, ◌⊎◌, ◌↔◌, ◌≤◌, ◌<◌, IsTrue, length, nat_le, Option, None};
+ghost use Rattle.rasta_pcap.specs.Fault.{fault_at, fault_of_end, name_of, no_memory, not_pcap, other_side};
 
 use std::alloc::AllocError;
 
@@ -33,12 +33,10 @@ pub struct Fault {
 }
 
 impl From<AllocError> for Fault {
-    ghost use Rattle.rasta_pcap.specs.Fault.{no_memory};
-
     ghost from_gives = { λ _ fault. fault ≡ no_memory };
 
     fn from(_error: AllocError) -> Fault {
-        Fault::at(Fault::NO_MEMORY, 0)
+        Fault::no_memory()
     }
 }
 
@@ -152,6 +150,27 @@ impl Fault {
             end: Some(end),
             ..Fault::at(number, place)
         }
+    }
+
+    /// Want of memory, which names no place and no end.
+    pub const fn no_memory() -> Fault
+        ensures { result ≡ no_memory }
+    {
+        Fault::at(Fault::NO_MEMORY, 0)
+    }
+
+    /// Whether it is told as the refusal of a capture; want of memory, and a device that failed, are errors of the run.
+    pub fn is_refusal(self) -> bool
+        ensures { result ≡ nat_le not_pcap self.number }
+    {
+        self.number >= Fault::NOT_PCAP
+    }
+
+    /// Whether it is want of memory or a failed read.
+    pub fn is_failure(self) -> bool
+        ensures { IsTrue result ↔ (self.number ≡ 1) ⊎ (self.number ≡ 2) }
+    {
+        matches!(self.number, Fault::NO_MEMORY | Fault::READ_FAILED)
     }
 
     /// The name that is printed, empty for a number that no fault has.

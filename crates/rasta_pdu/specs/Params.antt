@@ -1,6 +1,6 @@
 -- The recorded parameters of a connection.
 use Rattle.std.specs.Prelude.{◌≡◌, ◌≢◌, ◌⊎◌, ℕ, ◌+◌, ◌≤◌, List, [], ◌∷◌, length, Bool, true, not, ◌&&◌, ◌==◌, nat_le}
-use Rattle.std.specs.Prelude.{IsTrue, Option, IfSome}
+use Rattle.std.specs.Prelude.{◌↔◌, IsSome, IsTrue, Option, IfSome}
 use Rattle.std.specs.List.{list_all, list_any}
 use Rattle.std.specs.Str.{bytes_eq}
 use Rattle.rasta_pcap.specs.declared.fault.Side.{Side}
@@ -98,3 +98,8 @@ pub record AreParameters (p : Parameters) : Type 0 where
   pub window : IsWindow p.first_record p.last_record
   pub channels : AreChannels p.channels
   pub quiet : IfSome p.quiet (IsQuiet p.slack)
+
+-- what is made of these values: parameters with them, or none where a connection can't have them
+pub record AreMade (made : Option Parameters) (p : Parameters) : Type 0 where
+  pub valid : IsSome made ↔ AreParameters p
+  pub value : IfSome made (λ q. q ≡ p)

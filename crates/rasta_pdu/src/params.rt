@@ -1,7 +1,7 @@
 //! The recorded parameters of a connection.
-ghost use Rattle.std.specs.Prelude.{◌≡◌, ◌↔◌, length, IsSome, IsTrue, IfSome};
+ghost use Rattle.std.specs.Prelude.{◌≡◌, ◌↔◌, length, IsTrue, IfSome};
 ghost use Rattle.std.specs.List.{list_all};
-ghost use Rattle.rasta_pdu.specs.Params.{Parameters, AreChannels, AreLengths, AreLimits, AreParameters, IsQuiet, IsWindow, has_ports};
+ghost use Rattle.rasta_pdu.specs.Params.{Parameters, AreChannels, AreLengths, AreLimits, AreMade, AreParameters, IsQuiet, IsWindow, has_ports};
 
 use crate::quiet_point::Quiet;
 use crate::route::are_distinct_routes;
@@ -123,21 +123,7 @@ impl Params {
         channels: &[Channel],
         quiet: Option<Quiet>,
     ) -> Option<Params>
-        ensures valid { IsSome result ↔ AreParameters (record {
-          client_id = client_id;
-          server_id = server_id;
-          code_length = code_length;
-          md4_start = md4_start;
-          check_length = check_length;
-          n_sendmax = n_sendmax;
-          t_max = t_max;
-          slack = slack;
-          first_record = first_record;
-          last_record = last_record;
-          channels = channels.now;
-          quiet = quiet;
-        }) }
-        ensures value { IfSome result (λ p. p ≡ record {
+        ensures { AreMade result (record {
           client_id = client_id;
           server_id = server_id;
           code_length = code_length;

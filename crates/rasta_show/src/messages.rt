@@ -10,7 +10,7 @@ use rasta_pdu::{Fault, Messages, Sink};
 // Writes messages, each after a comma.
 fn write_further<W: Sink>(messages: Messages<'_>, writer: &mut W) -> Result<(), Fault>
     ensures out { Writes result (W.contents writer.old) (W.contents writer.new) (further_text (messages_left messages.entry)) }
-    ensures written { AsWritten result (W.failure_count writer.old) (W.failure_count writer.new) }
+    ensures written { AsWritten W.failure_count result writer.old writer.new }
 {
     for message in messages {
         write_all(writer, b",")?;
@@ -22,7 +22,7 @@ fn write_further<W: Sink>(messages: Messages<'_>, writer: &mut W) -> Result<(), 
 /// Writes messages with one comma between them.
 pub fn write_messages<W: Sink>(mut messages: Messages<'_>, writer: &mut W) -> Result<(), Fault>
     ensures out { Writes result (W.contents writer.old) (W.contents writer.new) (messages_text (messages_left messages.entry)) }
-    ensures written { AsWritten result (W.failure_count writer.old) (W.failure_count writer.new) }
+    ensures written { AsWritten W.failure_count result writer.old writer.new }
 {
     match messages.next() {
         Some(first) => {

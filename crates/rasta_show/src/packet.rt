@@ -98,7 +98,7 @@ impl ShownPacket<'_> {
         requires { length end.old ≤ 82 }
         ensures out { Writes result (W.contents writer.old) (W.contents writer.new)
             (words_before (front_words place (packet_of self.now)) end.old) }
-        ensures written { AsWritten result (W.failure_count writer.old) (W.failure_count writer.new) }
+        ensures written { AsWritten W.failure_count result writer.old writer.new }
     {
         self.put_front(place, end);
         write_all(writer, end.as_bytes())
@@ -124,7 +124,7 @@ impl ShownPacket<'_> {
     // Writes the line of a packet with messages.
     fn write_data<W: Sink>(&self, place: u32, line: &mut Line, writer: &mut W) -> Result<(), Fault>
         ensures out { Writes result (W.contents writer.old) (W.contents writer.new) (data_line place (packet_of self.now)) }
-        ensures written { AsWritten result (W.failure_count writer.old) (W.failure_count writer.new) }
+        ensures written { AsWritten W.failure_count result writer.old writer.new }
     {
         self.put_data_front(place, line);
         write_all(writer, line.as_bytes())?;
@@ -143,7 +143,7 @@ pub fn write_packet<W: Sink>(
     writer: &mut W,
 ) -> Result<(), Fault>
     ensures out { Writes result (W.contents writer.old) (W.contents writer.new) (packet_line place (packet_of packet.now)) }
-    ensures written { AsWritten result (W.failure_count writer.old) (W.failure_count writer.new) }
+    ensures written { AsWritten W.failure_count result writer.old writer.new }
 {
     match packet.pdu.body() {
         Body::Opening {

@@ -13,7 +13,7 @@ ghost use Rattle.rasta_line.specs.Runs.{GoesUpToRecord, IsRunFault, WritesBeginn
 use crate::packet::write_packet;
 use crate::shown_packet::ShownPacket;
 use crate::texts::count_line;
-use rasta_line::{Line, is_refusal, write_refusal};
+use rasta_line::{Line, write_refusal};
 use rasta_pcap::stream::RecordReader;
 use rasta_pcap::{Record, write_all};
 use rasta_pdu::{Datagram, Decoder, Fault, Params, Sink, Source, recorded_packet};
@@ -87,7 +87,7 @@ fn write_records<R: Source, W: Sink>(
         let number = match records.advance(reader) {
             Ok(Some(number)) => number,
             Ok(None) => break,
-            Err(fault) if is_refusal(fault) => return write_refusal(fault, writer),
+            Err(fault) if fault.is_refusal() => return write_refusal(fault, writer),
             Err(fault) => return Err(fault),
         };
         let bytes = records.buffer();
@@ -126,7 +126,7 @@ pub fn run_show<R: Source, W: Sink>(
 {
     match RecordReader::open(alloc, reader) {
         Ok(records) => write_records(alloc, params, records, reader, writer),
-        Err(fault) if is_refusal(fault) => write_refusal(fault, writer),
+        Err(fault) if fault.is_refusal() => write_refusal(fault, writer),
         Err(fault) => Err(fault),
     }
 }

@@ -195,7 +195,6 @@ pub still_silent : {T : Type 0} (r : Result ℕ Fault) (out : T) → IfErr r (λ
 still_silent r out = grind arith
 
 -- a write that failed is a run's fault
-pub write_fault : (r : Result ℕ Fault) (old_reads new_reads old_writes new_writes : ℕ)
-    → AsWritten r old_writes new_writes
-    → IfErr r (λ f. IsRunFault f old_reads new_reads old_writes new_writes)
-write_fault r old_reads new_reads old_writes new_writes h = grind arith
+pub write_fault : {W : Type 0} (count : W → ℕ) (r : Result ℕ Fault) (old_reads new_reads : ℕ) (old new : W) → AsWritten count r old new
+    → IfErr r (λ f. IsRunFault f old_reads new_reads (count old) (count new))
+write_fault count r old_reads new_reads old new h = grind arith

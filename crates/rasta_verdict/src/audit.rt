@@ -11,7 +11,7 @@ ghost use Rattle.rasta_verdict.specs.Proposed.{BeginsOutcome, IsAudit, IsBuild};
 use crate::proposed::{judge_proposed, write_found};
 use crate::verdict::write_verdict;
 use rasta_check::store;
-use rasta_line::{is_refusal, write_refusal};
+use rasta_line::write_refusal;
 use rasta_pdu::{Fault, Params, Sink, Source};
 use std::alloc::Global;
 
@@ -45,7 +45,7 @@ pub fn run_audit<R: Source, W: Sink>(
 {
     let store = match store(alloc, *params, reader) {
         Ok(store) => store,
-        Err(fault) if is_refusal(fault) => return write_refusal(fault, writer),
+        Err(fault) if fault.is_refusal() => return write_refusal(fault, writer),
         Err(fault) => return Err(fault),
     };
     let verdict = judge_proposed(alloc, &store)?;
@@ -79,7 +79,7 @@ pub fn run_build<R: Source, W: Sink>(
 {
     let store = match store(alloc, *params, reader) {
         Ok(store) => store,
-        Err(fault) if is_refusal(fault) => return write_refusal(fault, writer),
+        Err(fault) if fault.is_refusal() => return write_refusal(fault, writer),
         Err(fault) => return Err(fault),
     };
     let verdict = judge_proposed(alloc, &store)?;

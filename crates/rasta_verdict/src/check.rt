@@ -8,7 +8,7 @@ ghost use Rattle.rasta_verdict.specs.Verdict.{BeginsVerdict, IsVerdict, WritesVe
 
 use crate::verdict::{judge, write_verdict};
 use rasta_check::store;
-use rasta_line::{is_refusal, write_refusal};
+use rasta_line::write_refusal;
 use rasta_pdu::{Fault, Params, Sink, Source};
 use std::alloc::Global;
 use std::convert::AsSlice;
@@ -66,7 +66,7 @@ pub fn run_check_by_value<C: AsSlice<u8> + Drop, R: Source, W: Sink>(
 {
     let store = match store(alloc, *params, reader) {
         Ok(store) => store,
-        Err(fault) if is_refusal(fault) => return write_refusal(fault, writer),
+        Err(fault) if fault.is_refusal() => return write_refusal(fault, writer),
         Err(fault) => return Err(fault),
     };
     let verdict = judge(alloc, &store, certificate)?;

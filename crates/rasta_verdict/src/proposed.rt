@@ -50,7 +50,7 @@ pub fn judge_proposed<'a>(alloc: Global, store: &'a Store) -> Result<Verdict<'a>
 pub fn write_found<W: Sink>(verdict: &Verdict<'_>, writer: &mut W) -> Result<u8, Fault>
     ensures out { Writes result (W.contents writer.old) (W.contents writer.new) (told_verdict built_text verdict.now) }
     ensures answered { IfOk result (λ status. status_of_verdict verdict.now ≡ status) }
-    ensures written { AsWritten result (W.failure_count writer.old) (W.failure_count writer.new) }
+    ensures written { AsWritten W.failure_count result writer.old writer.new }
 {
     match verdict {
         Verdict::Explained(explanation) => {

@@ -31,7 +31,7 @@ fn write_takes<'s, W: Sink>(
     requires { IsOrderedFrom level script.now }
     ensures out { Writes result (W.contents writer.old) (W.contents writer.new) (takes_text level side script.entry.now) }
     ensures rest { IfOk result (λ r. IsAfterTakes level script.entry.now r.now) }
-    ensures written { AsWritten result (W.failure_count writer.old) (W.failure_count writer.new) }
+    ensures written { AsWritten W.failure_count result writer.old writer.new }
 {
     let mut rest = script;
     while let Some((number, after)) = next_take(level, rest) {
@@ -74,7 +74,7 @@ fn write_crossed<W: Sink>(
 ) -> Result<(), Fault>
     ensures out { Writes result (W.contents writer.old) (W.contents writer.new)
         (told_packet place (makes_of client) (makes_of server) (slice_get store.now.packets place)) }
-    ensures written { AsWritten result (W.failure_count writer.old) (W.failure_count writer.new) }
+    ensures written { AsWritten W.failure_count result writer.old writer.new }
 {
     let Some((side, number)) = store.packet(place) else {
         return Ok(());
@@ -96,7 +96,7 @@ fn write_level<'s, W: Sink>(
     ensures out { Writes result (W.contents writer.old) (W.contents writer.new)
         (told_level store.now.packets (scripts_of scripts.entry) level) }
     ensures rests { IfOk result (λ r. IsAfter level scripts.entry.client.now r.client.now × IsAfter level scripts.entry.server.now r.server.now) }
-    ensures written { AsWritten result (W.failure_count writer.old) (W.failure_count writer.new) }
+    ensures written { AsWritten W.failure_count result writer.old writer.new }
 {
     let client = write_takes(level, Side::Client, scripts.client, line, writer)?;
     let server = write_takes(level, Side::Server, scripts.server, line, writer)?;
@@ -116,7 +116,7 @@ pub fn write_run<W: Sink>(
 ) -> Result<(), Fault>
     requires { IsTold store.now certificate.now }
     ensures out { Writes result (W.contents writer.old) (W.contents writer.new) (run_text store.now certificate.now) }
-    ensures written { AsWritten result (W.failure_count writer.old) (W.failure_count writer.new) }
+    ensures written { AsWritten W.failure_count result writer.old writer.new }
 {
     let mut rests = Rests {
         client: certificate.client(),

@@ -38,7 +38,7 @@ fn write_taken_message<W: Sink>(
     writer: &mut W,
 ) -> Result<(), Fault>
     ensures out { Writes result (W.contents writer.old) (W.contents writer.new) (taken_line (listed_of taken.now)) }
-    ensures written { AsWritten result (W.failure_count writer.old) (W.failure_count writer.new) }
+    ensures written { AsWritten W.failure_count result writer.old writer.new }
 {
     put_places(line, taken);
     write_all(writer, line.as_bytes())?;
@@ -53,7 +53,7 @@ fn write_messages<W: Sink>(
     writer: &mut W,
 ) -> Result<(), Fault>
     ensures out { Writes result (W.contents writer.old) (W.contents writer.new) (taken_lines (map listed_of taken.now)) }
-    ensures written { AsWritten result (W.failure_count writer.old) (W.failure_count writer.new) }
+    ensures written { AsWritten W.failure_count result writer.old writer.new }
 {
     for message in taken {
         write_taken_message(message, line, writer)?;
@@ -69,7 +69,7 @@ pub fn write_taken<W: Sink>(
     writer: &mut W,
 ) -> Result<(), Fault>
     ensures out { Writes result (W.contents writer.old) (W.contents writer.new) (taken_text side (map listed_of taken.now)) }
-    ensures written { AsWritten result (W.failure_count writer.old) (W.failure_count writer.new) }
+    ensures written { AsWritten W.failure_count result writer.old writer.new }
 {
     put_count(line, side, taken.len() as u64);
     write_all(writer, line.as_bytes())?;

@@ -49,7 +49,7 @@ pub fn unscripted<'a>(fault: Fault) -> Result<Verdict<'a>, Fault>
     ensures err { IfErr result (λ f. f ≡ no_memory) }
 {
     if fault.number == Fault::NO_MEMORY {
-        Err(Fault::at(Fault::NO_MEMORY, 0))
+        Err(Fault::no_memory())
     } else {
         Ok(Verdict::Unscripted(fault))
     }
@@ -72,7 +72,7 @@ fn verdict_by<'a>(
             certificate,
             report,
         })),
-        Err(fault) if fault.number == Fault::NO_MEMORY => Err(Fault::at(Fault::NO_MEMORY, 0)),
+        Err(fault) if fault.number == Fault::NO_MEMORY => Err(Fault::no_memory()),
         Err(fault) => Ok(Verdict::Refused(fault, certificate)),
     }
 }
@@ -136,7 +136,7 @@ fn put_explained(line: &mut Line, packets: u32)
 fn write_explanation<W: Sink>(explanation: &Explanation<'_>, writer: &mut W) -> Result<(), Fault>
     requires { IsTold explanation.now.store.now explanation.now.certificate }
     ensures out { Writes result (W.contents writer.old) (W.contents writer.new) (text_of_explanation explanation.now) }
-    ensures written { AsWritten result (W.failure_count writer.old) (W.failure_count writer.new) }
+    ensures written { AsWritten W.failure_count result writer.old writer.new }
 {
     let report = &explanation.report;
     let mut line = Line::new();
@@ -168,7 +168,7 @@ pub fn write_verdict<W: Sink>(verdict: &Verdict<'_>, writer: &mut W) -> Result<u
     requires { HasToldRun verdict.now }
     ensures out { Writes result (W.contents writer.old) (W.contents writer.new) (text_of_verdict verdict.now) }
     ensures answered { IfOk result (λ status. status_of_verdict verdict.now ≡ status) }
-    ensures written { AsWritten result (W.failure_count writer.old) (W.failure_count writer.new) }
+    ensures written { AsWritten W.failure_count result writer.old writer.new }
 {
     match verdict {
         Verdict::Explained(explanation) => {

@@ -30,13 +30,6 @@ pub struct Reading {
     pub fault: Option<Fault>,
 }
 
-// A lack of memory, or a failed read.
-fn is_failure(fault: Fault) -> bool
-    ensures { IsTrue result ↔ (fault.number ≡ 1) ⊎ (fault.number ≡ 2) }
-{
-    matches!(fault.number, Fault::NO_MEMORY | Fault::READ_FAILED)
-}
-
 // How many records are held by none of the connections, with one more.
 fn count_other(others: u32, held: bool) -> u32
     ensures { others < max_records → result ≡ others + (if held then 0 else 1) }
@@ -55,7 +48,7 @@ fn end(reading: &mut Reading, fault: Fault) -> Result<(), Fault>
     ensures kept { params_in reading.new ≡ params_in reading.old }
     ensures err { IfErr result (λ f. (f ≡ no_memory) ⊎ (f ≡ read_failed)) }
 {
-    if is_failure(fault) {
+    if fault.is_failure() {
         return Err(Fault::at(fault.number, 0));
     }
     reading.lines.end(fault);

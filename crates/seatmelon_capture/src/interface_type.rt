@@ -4,14 +4,14 @@ ghost use Rattle.rasta_pcap.specs.Devices.{AsWritten};
 use crate::link_type::link_type_name;
 use rasta_pcap::{Fault, Sink};
 use seatmelon_pcapng::Format;
-use seatmelon_text::{parts, write_parts, write_words};
+use seatmelon_text::{tell, write_words};
 
 // Writes the name of a link type in brackets, if it has one.
 fn write_name<W: Sink>(writer: &mut W, link_type: u16) -> Result<(), Fault>
-    ensures written { AsWritten result (W.failure_count writer.old) (W.failure_count writer.new) }
+    ensures written { AsWritten W.failure_count result writer.old writer.new }
 {
     match link_type_name(link_type) {
-        Some(name) => write_parts(writer, &parts![" (", name, ")"]),
+        Some(name) => tell!(writer, " (", name, ")"),
         None => Ok(()),
     }
 }
@@ -21,14 +21,15 @@ fn write_name<W: Sink>(writer: &mut W, link_type: u16) -> Result<(), Fault>
 ///
 /// Refused by [`Fault::WRITE_FAILED`] alone.
 pub fn write_other_link_type<W: Sink>(writer: &mut W, format: Format) -> Result<(), Fault>
-    ensures written { AsWritten result (W.failure_count writer.old) (W.failure_count writer.new) }
+    ensures written { AsWritten W.failure_count result writer.old writer.new }
 {
     let Some(link_type) = format.other_link_type() else {
         return Ok(());
     };
-    write_parts(
+    tell!(
         writer,
-        &parts!["an interface of this file has link type ", link_type],
+        "an interface of this file has link type ",
+        link_type
     )?;
     write_name(writer, link_type)?;
     write_words(writer, ": its packets are of no connection\n")

@@ -1,20 +1,6 @@
 //! The lines of a parameter file on which its keys stand.
 
-/// The keys that stand outside of every table.
-pub const TOP_KEYS: [&str; 12] = [
-    "client_id",
-    "server_id",
-    "code_length",
-    "md4_start",
-    "check_length",
-    "n_sendmax",
-    "t_max",
-    "slack",
-    "first_record",
-    "last_record",
-    "channel",
-    "quiet",
-];
+use rasta_params::KEYS;
 
 // Whether a line begins with a key of this name, or is the header of its table.
 fn begins_with_key(line: &str, name: &str) -> bool {
@@ -26,7 +12,7 @@ fn begins_with_key(line: &str, name: &str) -> bool {
 }
 
 fn begins_with_known_key(line: &str) -> bool {
-    TOP_KEYS.iter().any(|name| begins_with_key(line, name))
+    KEYS.iter().any(|name| begins_with_key(line, name))
 }
 
 // Whether a line is the header of a table.

@@ -5,16 +5,15 @@ ghost use Rattle.seatmelon_show.specs.Counted.{IsListingOf};
 ghost use Rattle.seatmelon_commands.specs.Failing.{IsOfFiles};
 ghost use Rattle.seatmelon_commands.specs.Shown.{IsChoiceOf, kinds_of};
 
-use crate::failure::{Failure, Refusal};
-use crate::file_kind::kind_of_start;
+use crate::failure::Failure;
 use crate::output::unwritten;
 use crate::parameters::params_in;
 use crate::reading::{BUFFER, STANDARD_INPUT, unread, whole_file};
+use crate::surveying::refused;
 use crate::watched::Watched;
 use rasta_pcap::{Counted, Fault};
 use rasta_pdu::{Kind, Params};
 use seatmelon_capture::{FileHeader, Keeping};
-use seatmelon_pcapng::Format;
 use seatmelon_show::{Choice, Listing, Types, list};
 use std::alloc::Global;
 use std::fs::File;
@@ -80,24 +79,8 @@ fn unlisted<D, W>(
     ensures { IsOfFiles result }
 {
     match fault.number {
-        Fault::NO_MEMORY => Failure::OutOfMemory,
-        Fault::READ_FAILED => unread(alloc, path, reader.error()),
         Fault::WRITE_FAILED => unwritten(alloc, writer.error()),
-        _ => {
-            let kind = kind_of_start(reader.start());
-            match String::from_str(alloc, path) {
-                Ok(path) => Failure::Refused {
-                    path,
-                    refusal: Refusal {
-                        fault,
-                        kind,
-                        header,
-                        format: Format::Classic,
-                    },
-                },
-                Err(_) => Failure::OutOfMemory,
-            }
-        }
+        _ => refused(alloc, path, fault, header, reader),
     }
 }
 

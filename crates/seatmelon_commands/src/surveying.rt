@@ -21,8 +21,8 @@ use std::io;
 use std::io::{Input, Read};
 use std::rt::Files;
 
-// Why a capture isn't surveyed, by the fault, its header and what was read of its file.
-fn refused<D>(
+/// Why a capture isn't read, by the fault, its header and what was read of its file.
+pub fn refused<D>(
     alloc: Global,
     path: &str,
     fault: Fault,
@@ -31,6 +31,7 @@ fn refused<D>(
 ) -> Failure
     ensures number { TellsOf fault.number result }
     ensures header { TellsHeader header result }
+    ensures files { IsOfFiles result }
 {
     match fault.number {
         Fault::NO_MEMORY => Failure::OutOfMemory,

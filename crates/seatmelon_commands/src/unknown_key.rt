@@ -1,5 +1,6 @@
 //! Keys that no parameter file has, and those that they may stand for.
-use crate::key_lines::{TOP_KEYS, unknown_key_in};
+use crate::key_lines::unknown_key_in;
+use rasta_params::KEYS;
 use std::alloc::{AllocError, Global};
 use std::fmt;
 use strsim::levenshtein;
@@ -21,7 +22,7 @@ pub struct UnknownKey {
 
 // The key that a name may stand for.
 fn meant_by(alloc: Global, name: &str) -> Result<Option<String>, AllocError> {
-    for key in TOP_KEYS {
+    for key in KEYS {
         if levenshtein(alloc, name, key)? <= MOST_EDITS {
             return Ok(Some(String::from_str(alloc, key)?));
         }

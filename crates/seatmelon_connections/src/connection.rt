@@ -174,7 +174,7 @@ impl Connection {
     ///
     /// Refused by [`Fault::WRITE_FAILED`] alone.
     pub fn write_draft<W: Sink>(&self, writer: &mut W) -> Result<(), Fault>
-        ensures written { AsWritten result (W.failure_count writer.old) (W.failure_count writer.new) }
+        ensures written { AsWritten W.failure_count result writer.old writer.new }
     {
         write_draft(writer, self)
     }
@@ -184,7 +184,7 @@ impl Connection {
     ///
     /// Refused by [`Fault::WRITE_FAILED`] alone.
     pub fn write_kept_draft<W: Sink>(&self, writer: &mut W, params: &Params) -> Result<(), Fault>
-        ensures written { AsWritten result (W.failure_count writer.old) (W.failure_count writer.new) }
+        ensures written { AsWritten W.failure_count result writer.old writer.new }
     {
         match &self.quiet {
             Some(quiet) => write_kept_draft(writer, self, quiet, params),

@@ -10,7 +10,7 @@ use rasta_pcap::{Fault, Sink};
 use rasta_pdu::Kind;
 use rasta_udp::Channel;
 use seatmelon_packets::{LengthFit, Offer, likeliest};
-use seatmelon_text::{Part, numbered, parts, write_parts, write_parts_if, write_words};
+use seatmelon_text::{Part, numbered, parts, tell, write_parts, write_parts_if, write_words};
 
 // How many channels a parameter file may have.
 const MOST_CHANNELS: u64 = 4;
@@ -46,27 +46,25 @@ fn roles_in(connection: &Connection) -> Roles<'_> {
 }
 
 fn write_heading<W: Sink>(writer: &mut W, connection: &Connection) -> Result<(), Fault>
-    ensures written { AsWritten result (W.failure_count writer.old) (W.failure_count writer.new) }
+    ensures written { AsWritten W.failure_count result writer.old writer.new }
 {
-    write_parts(
+    tell!(
         writer,
-        &parts![
-            "# A draft of the parameters of the connection in the records ",
-            connection.first_record(),
-            " to ",
-            connection.last_record(),
-            " of a capture.\n",
-            "# Each line tells where its value was seen; one from the engineering data is a placeholder.\n",
-            "# A draft is a guess from the form of packets: compare each line with the engineering data.\n\n"
-        ],
+        "# A draft of the parameters of the connection in the records ",
+        connection.first_record(),
+        " to ",
+        connection.last_record(),
+        " of a capture.\n",
+        "# Each line tells where its value was seen; one from the engineering data is a placeholder.\n",
+        "# A draft is a guess from the form of packets: compare each line with the engineering data.\n\n"
     )
 }
 
 /// Writes a key with a number.
 pub fn write_number<W: Sink>(writer: &mut W, key: &'static str, value: u64) -> Result<(), Fault>
-    ensures written { AsWritten result (W.failure_count writer.old) (W.failure_count writer.new) }
+    ensures written { AsWritten W.failure_count result writer.old writer.new }
 {
-    write_parts(writer, &parts![key, " = ", value, " # "])
+    tell!(writer, key, " = ", value, " # ")
 }
 
 fn write_ids<W: Sink>(
@@ -75,7 +73,7 @@ fn write_ids<W: Sink>(
     server: &[Part<'_>],
     roles: Roles<'_>,
 ) -> Result<(), Fault>
-    ensures written { AsWritten result (W.failure_count writer.old) (W.failure_count writer.new) }
+    ensures written { AsWritten W.failure_count result writer.old writer.new }
 {
     write_number(writer, "client_id", u64::from(roles.client.id))?;
     write_parts(writer, client)?;
@@ -89,7 +87,7 @@ fn write_roles<W: Sink>(
     connection: &Connection,
     roles: Roles<'_>,
 ) -> Result<(), Fault>
-    ensures written { AsWritten result (W.failure_count writer.old) (W.failure_count writer.new) }
+    ensures written { AsWritten W.failure_count result writer.old writer.new }
 {
     if connection.has_opening() {
         let record = u64::from(connection.first_record());
@@ -120,7 +118,7 @@ fn write_other_lengths<W: Sink>(
     chosen: LengthFit,
     lengths: &[LengthFit; 3],
 ) -> Result<(), Fault>
-    ensures written { AsWritten result (W.failure_count writer.old) (W.failure_count writer.new) }
+    ensures written { AsWritten W.failure_count result writer.old writer.new }
 {
     for other in lengths {
         write_parts_if(
@@ -139,21 +137,19 @@ fn write_length<W: Sink>(
     lengths: &[LengthFit; 3],
     packets: u64,
 ) -> Result<(), Fault>
-    ensures written { AsWritten result (W.failure_count writer.old) (W.failure_count writer.new) }
+    ensures written { AsWritten W.failure_count result writer.old writer.new }
 {
     let chosen = likeliest(lengths);
     write_number(writer, key, u64::from(chosen.length))?;
     let doubt = parts!["from the engineering data, since none fits all packets: "];
     write_parts_if(writer, chosen.forms < packets, &doubt)?;
-    write_parts(
+    tell!(
         writer,
-        &parts![
-            "fits the length of ",
-            chosen.forms,
-            " of ",
-            packets,
-            " packets"
-        ],
+        "fits the length of ",
+        chosen.forms,
+        " of ",
+        packets,
+        " packets"
     )?;
     write_other_lengths(writer, chosen, lengths)?;
     write_words(writer, "\n")
@@ -161,7 +157,7 @@ fn write_length<W: Sink>(
 
 // Writes MD4's own start words, and whether they fit the safety codes.
 fn write_start_words<W: Sink>(writer: &mut W, code: LengthFit) -> Result<(), Fault>
-    ensures written { AsWritten result (W.failure_count writer.old) (W.failure_count writer.new) }
+    ensures written { AsWritten W.failure_count result writer.old writer.new }
 {
     write_words(
         writer,
@@ -175,15 +171,13 @@ fn write_start_words<W: Sink>(writer: &mut W, code: LengthFit) -> Result<(), Fau
     }
     let doubt = parts!["from the engineering data: "];
     write_parts_if(writer, code.right < code.forms, &doubt)?;
-    write_parts(
+    tell!(
         writer,
-        &parts![
-            "MD4's own start words fit ",
-            code.right,
-            " of ",
-            code.forms,
-            " safety codes\n"
-        ],
+        "MD4's own start words fit ",
+        code.right,
+        " of ",
+        code.forms,
+        " safety codes\n"
     )
 }
 
@@ -194,18 +188,22 @@ fn usable(offer: Option<Offer>) -> Option<Offer> {
 
 // Writes the N_sendmax that one end alone offered.
 fn write_offer<W: Sink>(writer: &mut W, name: &'static str, offer: Offer) -> Result<(), Fault>
-    ensures written { AsWritten result (W.failure_count writer.old) (W.failure_count writer.new) }
+    ensures written { AsWritten W.failure_count result writer.old writer.new }
 {
     write_number(writer, "n_sendmax", u64::from(offer.sendmax))?;
-    write_parts(
+    tell!(
         writer,
-        &parts!["offered by the ", name, " in record ", offer.record, "\n"],
+        "offered by the ",
+        name,
+        " in record ",
+        offer.record,
+        "\n"
     )
 }
 
 // Writes what both ends offered: the greater N_sendmax, where they differ.
 fn write_both_offers<W: Sink>(writer: &mut W, client: Offer, server: Offer) -> Result<(), Fault>
-    ensures written { AsWritten result (W.failure_count writer.old) (W.failure_count writer.new) }
+    ensures written { AsWritten W.failure_count result writer.old writer.new }
 {
     write_number(
         writer,
@@ -214,24 +212,22 @@ fn write_both_offers<W: Sink>(writer: &mut W, client: Offer, server: Offer) -> R
     )?;
     let doubt = parts!["from the engineering data: "];
     write_parts_if(writer, client.sendmax != server.sendmax, &doubt)?;
-    write_parts(
+    tell!(
         writer,
-        &parts![
-            "the client offered ",
-            client.sendmax,
-            " in record ",
-            client.record,
-            ", the server ",
-            server.sendmax,
-            " in record ",
-            server.record,
-            "\n"
-        ],
+        "the client offered ",
+        client.sendmax,
+        " in record ",
+        client.record,
+        ", the server ",
+        server.sendmax,
+        " in record ",
+        server.record,
+        "\n"
     )
 }
 
 fn write_sendmax<W: Sink>(writer: &mut W, roles: Roles<'_>) -> Result<(), Fault>
-    ensures written { AsWritten result (W.failure_count writer.old) (W.failure_count writer.new) }
+    ensures written { AsWritten W.failure_count result writer.old writer.new }
 {
     match (usable(roles.client.offer), usable(roles.server.offer)) {
         (Some(client), Some(server)) => write_both_offers(writer, client, server),
@@ -249,20 +245,18 @@ fn write_sendmax<W: Sink>(writer: &mut W, roles: Roles<'_>) -> Result<(), Fault>
 
 // Writes what no packet tells.
 fn write_limits<W: Sink>(writer: &mut W) -> Result<(), Fault>
-    ensures written { AsWritten result (W.failure_count writer.old) (W.failure_count writer.new) }
+    ensures written { AsWritten W.failure_count result writer.old writer.new }
 {
-    write_parts(
+    tell!(
         writer,
-        &parts![
-            "t_max = 1800 # from the engineering data, in milliseconds\n",
-            "slack = 0 # from the engineering data, in milliseconds\n"
-        ],
+        "t_max = 1800 # from the engineering data, in milliseconds\n",
+        "slack = 0 # from the engineering data, in milliseconds\n"
     )
 }
 
 /// Writes the records: those of the connection, or only those after a quiet point.
 pub fn write_window<W: Sink>(writer: &mut W, connection: &Connection) -> Result<(), Fault>
-    ensures written { AsWritten result (W.failure_count writer.old) (W.failure_count writer.new) }
+    ensures written { AsWritten W.failure_count result writer.old writer.new }
 {
     let earliest = match &connection.quiet {
         Some(quiet) => quiet.earliest(),
@@ -289,39 +283,35 @@ pub fn write_window<W: Sink>(writer: &mut W, connection: &Connection) -> Result<
 
 // Writes a channel as a table.
 fn write_table<W: Sink>(writer: &mut W, channel: Channel, record: u32) -> Result<(), Fault>
-    ensures written { AsWritten result (W.failure_count writer.old) (W.failure_count writer.new) }
+    ensures written { AsWritten W.failure_count result writer.old writer.new }
 {
-    write_parts(
+    tell!(
         writer,
-        &parts![
-            "\n[[channel]]\nclient = \"",
-            channel.client,
-            "\" # seen in record ",
-            record,
-            "\nserver = \"",
-            channel.server,
-            "\" # seen in record ",
-            record,
-            "\n"
-        ],
+        "\n[[channel]]\nclient = \"",
+        channel.client,
+        "\" # seen in record ",
+        record,
+        "\nserver = \"",
+        channel.server,
+        "\" # seen in record ",
+        record,
+        "\n"
     )
 }
 
 // Writes a channel as a comment.
 fn write_left_out<W: Sink>(writer: &mut W, channel: Channel, record: u32) -> Result<(), Fault>
-    ensures written { AsWritten result (W.failure_count writer.old) (W.failure_count writer.new) }
+    ensures written { AsWritten W.failure_count result writer.old writer.new }
 {
-    write_parts(
+    tell!(
         writer,
-        &parts![
-            "\n# A further channel, seen in record ",
-            record,
-            ", which can't stand beside those above:\n# client ",
-            channel.client,
-            ", server ",
-            channel.server,
-            "\n"
-        ],
+        "\n# A further channel, seen in record ",
+        record,
+        ", which can't stand beside those above:\n# client ",
+        channel.client,
+        ", server ",
+        channel.server,
+        "\n"
     )
 }
 
@@ -337,7 +327,7 @@ fn write_channels<W: Sink>(
     channels: &[ChannelCounts],
     is_first_client: bool,
 ) -> Result<(), Fault>
-    ensures written { AsWritten result (W.failure_count writer.old) (W.failure_count writer.new) }
+    ensures written { AsWritten W.failure_count result writer.old writer.new }
 {
     let mut written = 0u64;
     for (place, counts) in channels.iter().enumerate() {
@@ -362,7 +352,7 @@ fn write_keys<W: Sink>(
     connection: &Connection,
     roles: Roles<'_>,
 ) -> Result<(), Fault>
-    ensures written { AsWritten result (W.failure_count writer.old) (W.failure_count writer.new) }
+    ensures written { AsWritten W.failure_count result writer.old writer.new }
 {
     let lengths = connection.lengths;
     write_heading(writer, connection)?;
@@ -382,7 +372,7 @@ fn write_keys<W: Sink>(
 /// Writes a parameter file for a connection, with comments; or that the record behind which a quiet point is wanted has
 /// none.
 pub fn write_draft<W: Sink>(writer: &mut W, connection: &Connection) -> Result<(), Fault>
-    ensures written { AsWritten result (W.failure_count writer.old) (W.failure_count writer.new) }
+    ensures written { AsWritten W.failure_count result writer.old writer.new }
 {
     let roles = roles_in(connection);
     match &connection.quiet {

@@ -8,30 +8,28 @@ use crate::quiet_draft::write_quiet_points;
 use crate::quiet_reasons::write_no_point;
 use rasta_pcap::{Fault, Sink, write_all};
 use rasta_pdu::{Channel, Params};
-use seatmelon_text::{parts, write_parts, write_words};
+use seatmelon_text::{tell, write_words};
 
 // Where a value is from.
 const FROM_PARAMS: &str = "from PARAMS\n";
 
 fn write_heading<W: Sink>(writer: &mut W, connection: &Connection) -> Result<(), Fault>
-    ensures written { AsWritten result (W.failure_count writer.old) (W.failure_count writer.new) }
+    ensures written { AsWritten W.failure_count result writer.old writer.new }
 {
-    write_parts(
+    tell!(
         writer,
-        &parts![
-            "# The parameters of the file PARAMS, from a quiet point of the connection in the records ",
-            connection.first_record(),
-            " to ",
-            connection.last_record(),
-            " of a capture on.\n",
-            "# Each line tells where its value is from. The quiet point is a guess from the form of packets.\n\n"
-        ],
+        "# The parameters of the file PARAMS, from a quiet point of the connection in the records ",
+        connection.first_record(),
+        " to ",
+        connection.last_record(),
+        " of a capture on.\n",
+        "# Each line tells where its value is from. The quiet point is a guess from the form of packets.\n\n"
     )
 }
 
 // Writes a key with a number of the recorded parameters.
 fn write_kept<W: Sink>(writer: &mut W, key: &'static str, value: u64) -> Result<(), Fault>
-    ensures written { AsWritten result (W.failure_count writer.old) (W.failure_count writer.new) }
+    ensures written { AsWritten W.failure_count result writer.old writer.new }
 {
     write_number(writer, key, value)?;
     write_words(writer, FROM_PARAMS)
@@ -57,7 +55,7 @@ fn hex_digits(word: u32) -> [u8; 8] {
 }
 
 fn write_start_words<W: Sink>(writer: &mut W, words: [u32; 4]) -> Result<(), Fault>
-    ensures written { AsWritten result (W.failure_count writer.old) (W.failure_count writer.new) }
+    ensures written { AsWritten W.failure_count result writer.old writer.new }
 {
     let [first, second, third, fourth] = words;
     write_words(writer, "md4_start = \"")?;
@@ -70,21 +68,19 @@ fn write_start_words<W: Sink>(writer: &mut W, words: [u32; 4]) -> Result<(), Fau
 }
 
 fn write_channels<W: Sink>(writer: &mut W, channels: &[Channel]) -> Result<(), Fault>
-    ensures written { AsWritten result (W.failure_count writer.old) (W.failure_count writer.new) }
+    ensures written { AsWritten W.failure_count result writer.old writer.new }
 {
     for channel in channels {
-        write_parts(
+        tell!(
             writer,
-            &parts![
-                "\n[[channel]]\nclient = \"",
-                channel.client,
-                "\" # ",
-                FROM_PARAMS,
-                "server = \"",
-                channel.server,
-                "\" # ",
-                FROM_PARAMS
-            ],
+            "\n[[channel]]\nclient = \"",
+            channel.client,
+            "\" # ",
+            FROM_PARAMS,
+            "server = \"",
+            channel.server,
+            "\" # ",
+            FROM_PARAMS
         )?;
     }
     Ok(())
@@ -92,7 +88,7 @@ fn write_channels<W: Sink>(writer: &mut W, channels: &[Channel]) -> Result<(), F
 
 // Writes all keys that stand before the window.
 fn write_values<W: Sink>(writer: &mut W, params: &Params) -> Result<(), Fault>
-    ensures written { AsWritten result (W.failure_count writer.old) (W.failure_count writer.new) }
+    ensures written { AsWritten W.failure_count result writer.old writer.new }
 {
     write_kept(writer, "client_id", u64::from(params.client_id()))?;
     write_kept(writer, "server_id", u64::from(params.server_id()))?;
@@ -112,7 +108,7 @@ pub fn write_kept_draft<W: Sink>(
     quiet: &QuietPoints,
     params: &Params,
 ) -> Result<(), Fault>
-    ensures written { AsWritten result (W.failure_count writer.old) (W.failure_count writer.new) }
+    ensures written { AsWritten W.failure_count result writer.old writer.new }
 {
     let is_first_client = params.client_id() == connection.first.id;
     if quiet.lacks_point() {

@@ -3,7 +3,7 @@ ghost use Rattle.rasta_pcap.specs.Devices.{AsWritten};
 
 use crate::quiet::{LastData, LastSent, Point, QuietPoints};
 use rasta_pcap::{Fault, Sink};
-use seatmelon_text::{numbered, parts, write_parts, write_parts_if};
+use seatmelon_text::{numbered, parts, tell, write_parts, write_parts_if};
 
 // What stands before the record of an end's last PDU.
 const SEEN_IN: &str = " } # its last PDU is in record ";
@@ -18,19 +18,17 @@ fn write_end<W: Sink>(
     name: &'static str,
     last: LastSent,
 ) -> Result<(), Fault>
-    ensures written { AsWritten result (W.failure_count writer.old) (W.failure_count writer.new) }
+    ensures written { AsWritten W.failure_count result writer.old writer.new }
 {
-    write_parts(
+    tell!(
         writer,
-        &parts![
-            before,
-            "quiet.",
-            name,
-            " = { next_sn = ",
-            last.sn.wrapping_add(1),
-            ", clock = ",
-            last.stamp.ts
-        ],
+        before,
+        "quiet.",
+        name,
+        " = { next_sn = ",
+        last.sn.wrapping_add(1),
+        ", clock = ",
+        last.stamp.ts
     )?;
     let seen = last.stamp.record;
     let (data, words) = match last.data {
@@ -41,17 +39,15 @@ fn write_end<W: Sink>(
             return write_parts(writer, &rest);
         }
     };
-    write_parts(
+    tell!(
         writer,
-        &parts![
-            ", handed_ts = ",
-            data.ts,
-            SEEN_IN,
-            seen,
-            words,
-            data.record,
-            "\n"
-        ],
+        ", handed_ts = ",
+        data.ts,
+        SEEN_IN,
+        seen,
+        words,
+        data.record,
+        "\n"
     )
 }
 
@@ -62,7 +58,7 @@ fn write_ends<W: Sink>(
     point: &Point,
     is_first_client: bool,
 ) -> Result<(), Fault>
-    ensures written { AsWritten result (W.failure_count writer.old) (W.failure_count writer.new) }
+    ensures written { AsWritten W.failure_count result writer.old writer.new }
 {
     if is_first_client {
         write_end(writer, before, "client", point.first)?;
@@ -75,18 +71,16 @@ fn write_ends<W: Sink>(
 
 // Writes why a quiet point is proposed: no opening was captured, or only packets from a record on are looked at.
 fn write_cause<W: Sink>(writer: &mut W, from: Option<u32>) -> Result<(), Fault>
-    ensures written { AsWritten result (W.failure_count writer.old) (W.failure_count writer.new) }
+    ensures written { AsWritten W.failure_count result writer.old writer.new }
 {
     match from {
-        Some(from) => write_parts(
+        Some(from) => tell!(
             writer,
-            &parts![
-                "\n# Packets before record ",
-                from,
-                " are not looked at, but for copies."
-            ],
+            "\n# Packets before record ",
+            from,
+            " are not looked at, but for copies."
         ),
-        None => write_parts(writer, &parts!["\n# No opening was captured."]),
+        None => tell!(writer, "\n# No opening was captured."),
     }
 }
 
@@ -97,17 +91,15 @@ fn write_proposal<W: Sink>(
     from: Option<u32>,
     is_first_client: bool,
 ) -> Result<(), Fault>
-    ensures written { AsWritten result (W.failure_count writer.old) (W.failure_count writer.new) }
+    ensures written { AsWritten W.failure_count result writer.old writer.new }
 {
     write_cause(writer, from)?;
-    write_parts(
+    tell!(
         writer,
-        &parts![
-            " After record ",
-            point.record,
-            " both ends seem to be up and to owe each other nothing: a quiet point.\n",
-            "# It is a premise of every answer: only the engineering data or a log can confirm it.\n"
-        ],
+        " After record ",
+        point.record,
+        " both ends seem to be up and to owe each other nothing: a quiet point.\n",
+        "# It is a premise of every answer: only the engineering data or a log can confirm it.\n"
     )?;
     write_ends(writer, "", point, is_first_client)
 }
@@ -118,7 +110,7 @@ fn write_alternative<W: Sink>(
     point: &Point,
     is_first_client: bool,
 ) -> Result<(), Fault>
-    ensures written { AsWritten result (W.failure_count writer.old) (W.failure_count writer.new) }
+    ensures written { AsWritten W.failure_count result writer.old writer.new }
 {
     let next = u64::from(point.record).saturating_add(1);
     write_parts(
@@ -134,7 +126,7 @@ pub fn write_quiet_points<W: Sink>(
     quiet: &QuietPoints,
     is_first_client: bool,
 ) -> Result<(), Fault>
-    ensures written { AsWritten result (W.failure_count writer.old) (W.failure_count writer.new) }
+    ensures written { AsWritten W.failure_count result writer.old writer.new }
 {
     let mut written = 0u64;
     for candidate in quiet.candidates() {

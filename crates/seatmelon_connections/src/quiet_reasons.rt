@@ -5,7 +5,7 @@ use crate::channel::End;
 use crate::connection::Connection;
 use crate::quiet::{LastSent, QuietPoints, Reason, RuledOut};
 use rasta_pcap::{Fault, Sink};
-use seatmelon_text::{parts, write_parts};
+use seatmelon_text::tell;
 
 // What a point lacks at the end of the capture.
 #[derive(Clone, Copy)]
@@ -62,82 +62,69 @@ fn name_of_end(end: End, is_first_client: bool) -> &'static str {
 }
 
 fn write_lack<W: Sink>(writer: &mut W, lack: Lack, is_first_client: bool) -> Result<(), Fault>
-    ensures written { AsWritten result (W.failure_count writer.old) (W.failure_count writer.new) }
+    ensures written { AsWritten W.failure_count result writer.old writer.new }
 {
     match lack {
-        Lack::Confirmation { point, end } => write_parts(
+        Lack::Confirmation { point, end } => tell!(
             writer,
-            &parts![
-                "# After record ",
-                point,
-                " both ends are at rest, but behind it the ",
-                name_of_end(end, is_first_client),
-                " sends nothing.\n"
-            ],
+            "# After record ",
+            point,
+            " both ends are at rest, but behind it the ",
+            name_of_end(end, is_first_client),
+            " sends nothing.\n"
         ),
         Lack::AnyPdu(end) => {
             let name = name_of_end(end, is_first_client);
-            write_parts(
-                writer,
-                &parts!["# From there on the ", name, " sends nothing.\n"],
-            )
+            tell!(writer, "# From there on the ", name, " sends nothing.\n")
         }
-        Lack::Response { end, record } => write_parts(
+        Lack::Response { end, record } => tell!(
             writer,
-            &parts![
-                "# The retransmission request of the ",
-                name_of_end(end, is_first_client),
-                " in record ",
-                record,
-                " has no response.\n"
-            ],
+            "# The retransmission request of the ",
+            name_of_end(end, is_first_client),
+            " in record ",
+            record,
+            " has no response.\n"
         ),
-        Lack::Rest { end, last } => write_parts(
+        Lack::Rest { end, last } => tell!(
             writer,
-            &parts![
-                "# What the ",
-                name_of_end(end, is_first_client),
-                " sends last, in record ",
-                last.stamp.record,
-                ", is of the type ",
-                last.kind.name(),
-                ", and not heartbeat, data or retransmission request.\n"
-            ],
+            "# What the ",
+            name_of_end(end, is_first_client),
+            " sends last, in record ",
+            last.stamp.record,
+            ", is of the type ",
+            last.kind.name(),
+            ", and not heartbeat, data or retransmission request.\n"
         ),
     }
 }
 
 // Writes which point was ruled out last, and why.
 fn write_ruled_out<W: Sink>(writer: &mut W, ruled_out: RuledOut) -> Result<(), Fault>
-    ensures written { AsWritten result (W.failure_count writer.old) (W.failure_count writer.new) }
+    ensures written { AsWritten W.failure_count result writer.old writer.new }
 {
-    write_parts(
+    tell!(
         writer,
-        &parts![
-            "# The point after record ",
-            ruled_out.point,
-            " is ruled out by record ",
-            ruled_out.record
-        ],
+        "# The point after record ",
+        ruled_out.point,
+        " is ruled out by record ",
+        ruled_out.record
     )?;
     match ruled_out.reason {
-        Reason::ConfirmsNothing => write_parts(
+        Reason::ConfirmsNothing => tell!(
             writer,
-            &parts![", which does not confirm the other end's last PDU before it.\n"],
+            ", which does not confirm the other end's last PDU before it.\n"
         ),
-        Reason::RespondsToEarlier => write_parts(
+        Reason::RespondsToEarlier => tell!(
             writer,
-            &parts![", a retransmission response to what was asked for before it.\n"],
+            ", a retransmission response to what was asked for before it.\n"
         ),
-        Reason::Repeats { first } => write_parts(
+        Reason::Repeats { first } => tell!(
             writer,
-            &parts![
-                ", which has the number of the packet in record ",
-                first,
-                ".\n"
-            ],
+            ", which has the number of the packet in record ",
+            first,
+            ".\n"
         ),
-        Reason::Late => write_parts(writer, &parts![", whose number comes late.\n"]),
+        Reason::Late => tell!(writer, ", whose number comes late.\n"),
     }
 }
 
@@ -148,19 +135,17 @@ pub fn write_no_point<W: Sink>(
     quiet: &QuietPoints,
     is_first_client: bool,
 ) -> Result<(), Fault>
-    ensures written { AsWritten result (W.failure_count writer.old) (W.failure_count writer.new) }
+    ensures written { AsWritten W.failure_count result writer.old writer.new }
 {
-    write_parts(
+    tell!(
         writer,
-        &parts![
-            "# The connection in the records ",
-            connection.first_record(),
-            " to ",
-            connection.last_record(),
-            " of a capture shows no quiet point behind record ",
-            quiet.from().unwrap_or(0),
-            ".\n"
-        ],
+        "# The connection in the records ",
+        connection.first_record(),
+        " to ",
+        connection.last_record(),
+        " of a capture shows no quiet point behind record ",
+        quiet.from().unwrap_or(0),
+        ".\n"
     )?;
     if let Some(lack) = lack_in(quiet) {
         write_lack(writer, lack, is_first_client)?;

@@ -66,7 +66,7 @@ impl<S: Source> Capture<S> {
         ensures failed { (result ≡ fault) ⊎ (result ≡ no_memory) }
     {
         if fault.number == Fault::READ_FAILED && self.lacks_memory() {
-            return Fault::at(Fault::NO_MEMORY, 0);
+            return Fault::no_memory();
         }
         fault
     }

@@ -35,13 +35,6 @@ pub struct Pass<'a> {
     ghost told: { ForSome refusal (λ r. (r.fault ≢ no_memory) × (r.fault ≢ read_failed)) },
 }
 
-// A lack of memory, or a failed read.
-fn is_failure(fault: Fault) -> bool
-    ensures { IsTrue result ↔ (fault.number ≡ 1) ⊎ (fault.number ≡ 2) }
-{
-    matches!(fault.number, Fault::NO_MEMORY | Fault::READ_FAILED)
-}
-
 // Where the packet of a record crossed, if it holds one of the recorded channels.
 fn passage_in(params: &Params, record: &Record<'_>) -> Option<Passage>
     ensures { result ≡ passages.passage_in (packet_found (packet_in params.now.channels «record».now.bytes.now)) }
@@ -91,7 +84,7 @@ impl<'a> Pass<'a> {
         ensures kept { IsSameBut self.old self.new }
         ensures err { IfErr result (λ f. (f ≡ no_memory) ⊎ (f ≡ read_failed)) }
     {
-        if is_failure(fault) {
+        if fault.is_failure() {
             return Err(Fault::at(fault.number, 0));
         }
         let store = self.builder.store();
@@ -239,7 +232,7 @@ impl<'a> Pass<'a> {
         ensures kept { IsSameBut self.old self.new }
         ensures err { IfErr result (λ f. (f ≡ no_memory) ⊎ (f ≡ read_failed)) }
     {
-        if is_failure(fault) {
+        if fault.is_failure() {
             return Err(Fault::at(fault.number, 0));
         }
         if self.refusal.is_none() && fault.place <= self.params.last_record() {

@@ -19,21 +19,21 @@ pub enum Cell<'a> {
 
 // Writes so many blanks, as far as a column is wide.
 fn write_blanks<W: Sink>(writer: &mut W, count: usize) -> Result<(), Fault>
-    ensures written { AsWritten result (W.failure_count writer.old) (W.failure_count writer.new) }
+    ensures written { AsWritten W.failure_count result writer.old writer.new }
 {
     write_all(writer, &BLANKS[..count.min(BLANKS.len())])
 }
 
 // Writes what stands at the right of a cell.
 fn write_right<W: Sink>(writer: &mut W, text: &[u8], width: usize) -> Result<(), Fault>
-    ensures written { AsWritten result (W.failure_count writer.old) (W.failure_count writer.new) }
+    ensures written { AsWritten W.failure_count result writer.old writer.new }
 {
     write_blanks(writer, width.saturating_sub(text.len()))?;
     write_all(writer, text)
 }
 
 fn write_number<W: Sink>(writer: &mut W, n: u32, width: usize) -> Result<(), Fault>
-    ensures written { AsWritten result (W.failure_count writer.old) (W.failure_count writer.new) }
+    ensures written { AsWritten W.failure_count result writer.old writer.new }
 {
     let mut buffer = Buffer::new();
     write_right(writer, buffer.format(n).as_bytes(), width)
@@ -41,7 +41,7 @@ fn write_number<W: Sink>(writer: &mut W, n: u32, width: usize) -> Result<(), Fau
 
 /// Writes a cell, and the blanks that part it from the next one.
 pub fn write_cell<W: Sink>(writer: &mut W, cell: Cell<'_>, width: usize) -> Result<(), Fault>
-    ensures written { AsWritten result (W.failure_count writer.old) (W.failure_count writer.new) }
+    ensures written { AsWritten W.failure_count result writer.old writer.new }
 {
     match cell {
         Cell::Words(words) => {

@@ -11,7 +11,7 @@ use rasta_pcap::{CaptureTime, Fault, Sink};
 use rasta_pdu::{Fields, Params, payload_in};
 use rasta_udp::Datagram;
 use seatmelon_pcapng::{Format, Refusal};
-use seatmelon_text::{parts, write_parts, write_words};
+use seatmelon_text::{tell, write_words};
 
 // How many characters the columns have.
 const RECORD: usize = 8;
@@ -35,21 +35,21 @@ SN          CS          TS         CTS  payload
 
 /// Writes what a listing begins with.
 pub fn write_head<W: Sink>(writer: &mut W) -> Result<(), Fault>
-    ensures written { AsWritten result (W.failure_count writer.old) (W.failure_count writer.new) }
+    ensures written { AsWritten W.failure_count result writer.old writer.new }
 {
     write_words(writer, HEAD)
 }
 
 // Writes a field, or a dash where there is none.
 fn write_field<W: Sink>(writer: &mut W, field: Option<u32>) -> Result<(), Fault>
-    ensures written { AsWritten result (W.failure_count writer.old) (W.failure_count writer.new) }
+    ensures written { AsWritten W.failure_count result writer.old writer.new }
 {
     write_cell(writer, Cell::Number(field), NUMBER)
 }
 
 // Writes the type of a datagram: its name, or the number that stands in its place.
 fn write_type<W: Sink>(writer: &mut W, fields: &Fields) -> Result<(), Fault>
-    ensures written { AsWritten result (W.failure_count writer.old) (W.failure_count writer.new) }
+    ensures written { AsWritten W.failure_count result writer.old writer.new }
 {
     match fields.kind() {
         Some(kind) => write_cell(writer, Cell::Words(kind.name()), TYPE),
@@ -63,7 +63,7 @@ fn write_type<W: Sink>(writer: &mut W, fields: &Fields) -> Result<(), Fault>
 
 // Writes the fields of a datagram, as far as it is long enough to have them.
 fn write_fields<W: Sink>(writer: &mut W, fields: &Fields) -> Result<(), Fault>
-    ensures written { AsWritten result (W.failure_count writer.old) (W.failure_count writer.new) }
+    ensures written { AsWritten W.failure_count result writer.old writer.new }
 {
     write_field(writer, fields.number)?;
     write_type(writer, fields)?;
@@ -75,7 +75,7 @@ fn write_fields<W: Sink>(writer: &mut W, fields: &Fields) -> Result<(), Fault>
 
 // Writes what the payload of a datagram holds, whose layout is that of its type.
 fn write_content<W: Sink>(writer: &mut W, params: &Params, bytes: &[u8]) -> Result<(), Fault>
-    ensures written { AsWritten result (W.failure_count writer.old) (W.failure_count writer.new) }
+    ensures written { AsWritten W.failure_count result writer.old writer.new }
 {
     match (Fields::of(bytes).kind(), payload_in(params, bytes)) {
         (Some(kind), Some(payload)) => write_payload(writer, kind, payload),
@@ -85,18 +85,15 @@ fn write_content<W: Sink>(writer: &mut W, params: &Params, bytes: &[u8]) -> Resu
 
 // Writes the number and the name of a fault.
 fn write_fault<W: Sink>(writer: &mut W, fault: Fault) -> Result<(), Fault>
-    ensures written { AsWritten result (W.failure_count writer.old) (W.failure_count writer.new) }
+    ensures written { AsWritten W.failure_count result writer.old writer.new }
 {
     let number = fault.number;
-    write_parts(
-        writer,
-        &parts!["can't be decoded: ", number, " ", fault.name()],
-    )
+    tell!(writer, "can't be decoded: ", number, " ", fault.name())
 }
 
 // Writes the ids of a datagram, where they aren't the recorded ones.
 fn write_ids<W: Sink>(writer: &mut W, bytes: &[u8]) -> Result<(), Fault>
-    ensures written { AsWritten result (W.failure_count writer.old) (W.failure_count writer.new) }
+    ensures written { AsWritten W.failure_count result writer.old writer.new }
 {
     let Fields {
         sender,
@@ -105,10 +102,7 @@ fn write_ids<W: Sink>(writer: &mut W, bytes: &[u8]) -> Result<(), Fault>
     } = Fields::of(bytes);
     match (sender, receiver) {
         (Some(sender), Some(receiver)) => {
-            write_parts(
-                writer,
-                &parts![", sender ", sender, ", receiver ", receiver],
-            )
+            tell!(writer, ", sender ", sender, ", receiver ", receiver)
         }
         _ => Ok(()),
     }
@@ -121,7 +115,7 @@ fn write_rest<W: Sink>(
     bytes: &[u8],
     decoding: Decoding,
 ) -> Result<(), Fault>
-    ensures written { AsWritten result (W.failure_count writer.old) (W.failure_count writer.new) }
+    ensures written { AsWritten W.failure_count result writer.old writer.new }
 {
     match decoding {
         Decoding::Whole => write_content(writer, params, bytes),
@@ -143,11 +137,11 @@ fn write_record<W: Sink>(
     number: u32,
     time: Option<CaptureTime>,
 ) -> Result<(), Fault>
-    ensures written { AsWritten result (W.failure_count writer.old) (W.failure_count writer.new) }
+    ensures written { AsWritten W.failure_count result writer.old writer.new }
 {
     write_cell(writer, Cell::Number(Some(number)), RECORD)?;
     match time {
-        Some(time) => write_parts(writer, &parts![time, "  "]),
+        Some(time) => tell!(writer, time, "  "),
         None => write_cell(writer, Cell::Words("-"), TIME),
     }
 }
@@ -159,7 +153,7 @@ fn write_datagram<W: Sink>(
     found: &Datagram<'_>,
     decoding: Decoding,
 ) -> Result<(), Fault>
-    ensures written { AsWritten result (W.failure_count writer.old) (W.failure_count writer.new) }
+    ensures written { AsWritten W.failure_count result writer.old writer.new }
 {
     write_cell(
         writer,
@@ -173,7 +167,7 @@ fn write_datagram<W: Sink>(
 
 // Writes the same of a frame whose datagram can't be read.
 fn write_unreadable<W: Sink>(writer: &mut W, fault: Fault) -> Result<(), Fault>
-    ensures written { AsWritten result (W.failure_count writer.old) (W.failure_count writer.new) }
+    ensures written { AsWritten W.failure_count result writer.old writer.new }
 {
     write_cell(writer, Cell::Number(None), CHANNEL)?;
     write_cell(writer, Cell::Words("-"), SENDER)?;
@@ -189,7 +183,7 @@ pub fn write_line<W: Sink>(
     time: Option<CaptureTime>,
     decoding: Decoding,
 ) -> Result<(), Fault>
-    ensures written { AsWritten result (W.failure_count writer.old) (W.failure_count writer.new) }
+    ensures written { AsWritten W.failure_count result writer.old writer.new }
 {
     write_record(writer, sight.number, time)?;
     match &sight.found {
@@ -211,36 +205,34 @@ fn words_on(fault: Fault) -> (&'static str, &'static str) {
 
 // Writes what a fault that ends a capture says, with the number of its record.
 fn write_record_fault<W: Sink>(writer: &mut W, fault: Fault) -> Result<(), Fault>
-    ensures written { AsWritten result (W.failure_count writer.old) (W.failure_count writer.new) }
+    ensures written { AsWritten W.failure_count result writer.old writer.new }
 {
     let (before, behind) = words_on(fault);
-    write_parts(writer, &parts![before, fault.place, behind])
+    tell!(writer, before, fault.place, behind)
 }
 
 // Writes why a pcapng file is refused, whose capture therefore ends inside this record.
 fn write_refusal<W: Sink>(writer: &mut W, record: u32, refusal: Refusal) -> Result<(), Fault>
-    ensures written { AsWritten result (W.failure_count writer.old) (W.failure_count writer.new) }
+    ensures written { AsWritten W.failure_count result writer.old writer.new }
 {
     let records = record.saturating_sub(1);
     let name = if records == 1 { " record" } else { " records" };
     let Refusal { reason, at } = refusal;
-    write_parts(
+    tell!(
         writer,
-        &parts![
-            "after ",
-            records,
-            name,
-            ", at byte ",
-            at,
-            ": ",
-            reason.words()
-        ],
+        "after ",
+        records,
+        name,
+        ", at byte ",
+        at,
+        ": ",
+        reason.words()
     )
 }
 
 /// Writes why no further record is listed of a file in this format.
 pub fn write_end<W: Sink>(writer: &mut W, fault: Fault, format: Format) -> Result<(), Fault>
-    ensures written { AsWritten result (W.failure_count writer.old) (W.failure_count writer.new) }
+    ensures written { AsWritten W.failure_count result writer.old writer.new }
 {
     let (number, name) = (fault.number, fault.name());
     match format.refusal() {
@@ -249,21 +241,19 @@ pub fn write_end<W: Sink>(writer: &mut W, fault: Fault, format: Format) -> Resul
         }
         _ => write_record_fault(writer, fault)?,
     }
-    write_parts(
+    tell!(
         writer,
-        &parts![
-            " (",
-            number,
-            " ",
-            name,
-            "): nothing from there on is listed\n"
-        ],
+        " (",
+        number,
+        " ",
+        name,
+        "): nothing from there on is listed\n"
     )
 }
 
 /// Writes how many packets were listed.
 pub fn write_counts<W: Sink>(writer: &mut W, counts: &Counts) -> Result<(), Fault>
-    ensures written { AsWritten result (W.failure_count writer.old) (W.failure_count writer.new) }
+    ensures written { AsWritten W.failure_count result writer.old writer.new }
 {
     let (listed, packets) = (counts.listed, counts.packets);
     if packets == 0 {
@@ -272,21 +262,16 @@ pub fn write_counts<W: Sink>(writer: &mut W, counts: &Counts) -> Result<(), Faul
             "no packet of the recorded channels is in the window: check addresses and ports\n",
         );
     }
-    write_parts(
+    tell!(
         writer,
-        &parts![
-            "packets listed: ",
-            listed,
-            " of ",
-            packets,
-            " in the window"
-        ],
+        "packets listed: ",
+        listed,
+        " of ",
+        packets,
+        " in the window"
     )?;
     if counts.other_codes > 0 {
-        write_parts(
-            writer,
-            &parts!["; codes that don't fit: ", counts.other_codes],
-        )?;
+        tell!(writer, "; codes that don't fit: ", counts.other_codes)?;
     }
     write_words(writer, "\n")
 }

@@ -31,19 +31,12 @@ pub struct Listing {
     pub fault: Option<Fault>,
 }
 
-// A lack of memory, or a failed read.
-fn is_failure(fault: Fault) -> bool
-    ensures { IsTrue result ↔ (fault.number ≡ 1) ⊎ (fault.number ≡ 2) }
-{
-    matches!(fault.number, Fault::NO_MEMORY | Fault::READ_FAILED)
-}
-
 // A fault of the capture; a lack of memory and a failed read are errors.
 fn told(fault: Fault) -> Result<Fault, Fault>
     ensures ok { IfOk result (λ f. (f ≡ fault) × (fault ≢ no_memory) × (fault ≢ read_failed)) }
     ensures err { IfErr result (λ f. (f ≡ no_memory) ⊎ (f ≡ read_failed)) }
 {
-    if is_failure(fault) {
+    if fault.is_failure() {
         return Err(Fault::at(fault.number, 0));
     }
     Ok(fault)

@@ -4,7 +4,7 @@ ghost use Rattle.rasta_pcap.specs.Devices.{AsWritten};
 use rasta_pcap::{Fault, Sink};
 use rasta_pdu::fields::{ending_in, opening_in};
 use rasta_pdu::{Kind, Messages};
-use seatmelon_text::{parts, write_parts, write_words};
+use seatmelon_text::{tell, write_words};
 
 // How many messages there are, and how many bytes these have together.
 #[derive(Clone, Copy)]
@@ -33,14 +33,14 @@ fn write_count<W: Sink>(
     one: &'static str,
     many: &'static str,
 ) -> Result<(), Fault>
-    ensures written { AsWritten result (W.failure_count writer.old) (W.failure_count writer.new) }
+    ensures written { AsWritten W.failure_count result writer.old writer.new }
 {
     let name = if n == 1 { one } else { many };
-    write_parts(writer, &parts![n, name])
+    tell!(writer, n, name)
 }
 
 fn write_messages<W: Sink>(writer: &mut W, payload: &[u8]) -> Result<(), Fault>
-    ensures written { AsWritten result (W.failure_count writer.old) (W.failure_count writer.new) }
+    ensures written { AsWritten W.failure_count result writer.old writer.new }
 {
     let counts = count_messages(payload);
     write_count(writer, counts.messages, " message, ", " messages, ")?;
@@ -49,33 +49,28 @@ fn write_messages<W: Sink>(writer: &mut W, payload: &[u8]) -> Result<(), Fault>
 
 // Writes the version and N_sendmax of an opening.
 fn write_opening<W: Sink>(writer: &mut W, payload: &[u8]) -> Result<(), Fault>
-    ensures written { AsWritten result (W.failure_count writer.old) (W.failure_count writer.new) }
+    ensures written { AsWritten W.failure_count result writer.old writer.new }
 {
     let Some(opening) = opening_in(payload) else {
         return write_words(writer, "-");
     };
     let (version, sendmax) = opening;
-    write_parts(
-        writer,
-        &parts!["version ", version, ", N_sendmax ", sendmax],
-    )
+    tell!(writer, "version ", version, ", N_sendmax ", sendmax)
 }
 
 // Writes detail and reason of a disconnection request.
 fn write_ending<W: Sink>(writer: &mut W, payload: &[u8]) -> Result<(), Fault>
-    ensures written { AsWritten result (W.failure_count writer.old) (W.failure_count writer.new) }
+    ensures written { AsWritten W.failure_count result writer.old writer.new }
 {
     match ending_in(payload) {
-        Some((detail, reason)) => {
-            write_parts(writer, &parts!["detail ", detail, ", reason ", reason])
-        }
+        Some((detail, reason)) => { tell!(writer, "detail ", detail, ", reason ", reason) }
         None => write_words(writer, "-"),
     }
 }
 
 /// Writes what a payload of this type holds; a dash where there is nothing in it.
 pub fn write_payload<W: Sink>(writer: &mut W, kind: Kind, payload: &[u8]) -> Result<(), Fault>
-    ensures written { AsWritten result (W.failure_count writer.old) (W.failure_count writer.new) }
+    ensures written { AsWritten W.failure_count result writer.old writer.new }
 {
     match kind {
         Kind::ConnectionRequest | Kind::ConnectionResponse => write_opening(writer, payload),

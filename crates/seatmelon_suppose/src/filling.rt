@@ -126,7 +126,7 @@ fn proposed(alloc: Global, store: &Store) -> Result<Option<Certificate>, Fault>
         &store.server(),
     ) {
         Ok(certificate) => Ok(Some(certificate)),
-        Err(fault) if fault.number == Fault::NO_MEMORY => Err(Fault::at(Fault::NO_MEMORY, 0)),
+        Err(fault) if fault.number == Fault::NO_MEMORY => Err(Fault::no_memory()),
         Err(_) => Ok(None),
     }
 }

@@ -238,6 +238,6 @@ pub fn suppose(
     match supposed(alloc, params, packets, most) {
         Ok(supposition) => Ok(supposition),
         // Nothing else can fail.
-        Err(_) => Err(Fault::at(Fault::NO_MEMORY, 0)),
+        Err(_) => Err(Fault::no_memory()),
     }
 }

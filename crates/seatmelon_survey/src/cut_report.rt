@@ -6,27 +6,24 @@ use crate::findings::Survey;
 use rasta_pcap::{Fault, Sink};
 use rasta_udp::Channel;
 use seatmelon_connections::Connection;
-use seatmelon_text::{parts, write_parts, write_parts_if, write_words};
+use seatmelon_text::{parts, tell, write_parts_if, write_words};
 
 // How many pairs of ends are told one by one that are in no connection.
 const MOST_TOLD: u64 = 32;
 
 // Writes how many bytes of each frame were captured at most, in brackets, where that is known.
 fn write_snapshot<W: Sink>(writer: &mut W, survey: &Survey) -> Result<(), Fault>
-    ensures written { AsWritten result (W.failure_count writer.old) (W.failure_count writer.new) }
+    ensures written { AsWritten W.failure_count result writer.old writer.new }
 {
     match survey.header() {
-        Some(header) => write_parts(
-            writer,
-            &parts![" (snapshot length ", header.snapshot_length, ")"],
-        ),
+        Some(header) => tell!(writer, " (snapshot length ", header.snapshot_length, ")"),
         None => Ok(()),
     }
 }
 
 /// Writes how many datagrams were captured cut, unless none was.
 pub fn write_cuts<W: Sink>(writer: &mut W, survey: &Survey) -> Result<(), Fault>
-    ensures written { AsWritten result (W.failure_count writer.old) (W.failure_count writer.new) }
+    ensures written { AsWritten W.failure_count result writer.old writer.new }
 {
     let datagrams = survey.cuts().datagrams();
     if datagrams == 0 {
@@ -34,7 +31,7 @@ pub fn write_cuts<W: Sink>(writer: &mut W, survey: &Survey) -> Result<(), Fault>
     }
     write_words(writer, "UDP datagrams that were captured cut")?;
     write_snapshot(writer, survey)?;
-    write_parts(writer, &parts![": ", datagrams, "\n"])
+    tell!(writer, ": ", datagrams, "\n")
 }
 
 // How many datagrams of a channel were captured cut, both ways.
@@ -58,7 +55,7 @@ pub fn write_cut_of<W: Sink>(
     survey: &Survey,
     connection: &Connection,
 ) -> Result<(), Fault>
-    ensures written { AsWritten result (W.failure_count writer.old) (W.failure_count writer.new) }
+    ensures written { AsWritten W.failure_count result writer.old writer.new }
 {
     let count = count_in(survey.cuts(), connection);
     if count == 0 {
@@ -68,7 +65,7 @@ pub fn write_cut_of<W: Sink>(
         1 => " datagram of these hosts was captured cut",
         _ => " datagrams of these hosts were captured cut",
     };
-    write_parts(writer, &parts!["  ", count, words])?;
+    tell!(writer, "  ", count, words)?;
     write_snapshot(writer, survey)?;
     write_words(writer, "\n")
 }
@@ -104,7 +101,7 @@ fn write_pair<W: Sink>(
     route: &Channel,
     datagrams: u64,
 ) -> Result<(), Fault>
-    ensures written { AsWritten result (W.failure_count writer.old) (W.failure_count writer.new) }
+    ensures written { AsWritten W.failure_count result writer.old writer.new }
 {
     let words = match datagrams {
         1 => " datagram\n",
@@ -112,24 +109,22 @@ fn write_pair<W: Sink>(
     };
     write_words(writer, "only in datagrams that were captured cut")?;
     write_snapshot(writer, survey)?;
-    write_parts(
+    tell!(
         writer,
-        &parts![
-            ": ",
-            route.client,
-            " - ",
-            route.server,
-            ", ",
-            datagrams,
-            words
-        ],
+        ": ",
+        route.client,
+        " - ",
+        route.server,
+        ", ",
+        datagrams,
+        words
     )
 }
 
 /// Writes between which ends datagrams were captured cut that have the form of RaSTA as far as they go, where no
 /// connection has these ends: some of them, and then how many more.
 pub fn write_cut_pairs<W: Sink>(writer: &mut W, survey: &Survey) -> Result<(), Fault>
-    ensures written { AsWritten result (W.failure_count writer.old) (W.failure_count writer.new) }
+    ensures written { AsWritten W.failure_count result writer.old writer.new }
 {
     let mut told = 0u64;
     for place in 0..survey.cuts().directions() {

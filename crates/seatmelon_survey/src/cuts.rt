@@ -199,7 +199,7 @@ impl Cuts {
         if self.has_room_for(direction) {
             let count = self.count(direction).with(cut);
             let Ok(_) = self.directions.insert(direction, count) else {
-                return Err(Fault::at(Fault::NO_MEMORY, 0));
+                return Err(Fault::no_memory());
             };
         } else {
             self.further = self.further.saturating_add(1);

@@ -3,7 +3,7 @@ ghost use Rattle.rasta_pcap.specs.Devices.{AsWritten};
 
 use rasta_pcap::{Fault, Sink};
 use seatmelon_pcapng::{Format, Refusal};
-use seatmelon_text::{parts, write_parts, write_parts_if, write_words};
+use seatmelon_text::{parts, tell, write_parts_if, write_words};
 
 /// What a fault of a capture says, before the number of the record and behind it; a fault of the file's header names no
 /// record.
@@ -64,26 +64,24 @@ impl FileRefusal {
 
 // Writes why a file is refused, behind how many records and where.
 fn write_refusal<W: Sink>(writer: &mut W, refused: &FileRefusal) -> Result<(), Fault>
-    ensures written { AsWritten result (W.failure_count writer.old) (W.failure_count writer.new) }
+    ensures written { AsWritten W.failure_count result writer.old writer.new }
 {
     let Refusal { reason, at } = refused.refusal;
-    write_parts(
+    tell!(
         writer,
-        &parts![
-            "after ",
-            refused.records,
-            refused.records_name(),
-            ", at byte ",
-            at,
-            ": ",
-            reason.words()
-        ],
+        "after ",
+        refused.records,
+        refused.records_name(),
+        ", at byte ",
+        at,
+        ": ",
+        reason.words()
     )
 }
 
 // Writes what a fault says of the capture itself, with the number of the record, if it names one.
 fn write_record_fault<W: Sink>(writer: &mut W, fault: Fault) -> Result<(), Fault>
-    ensures written { AsWritten result (W.failure_count writer.old) (W.failure_count writer.new) }
+    ensures written { AsWritten W.failure_count result writer.old writer.new }
 {
     let FaultWords { before, behind } = words_of_fault(fault.number);
     write_words(writer, before)?;
@@ -94,14 +92,11 @@ fn write_record_fault<W: Sink>(writer: &mut W, fault: Fault) -> Result<(), Fault
 ///
 /// Refused by [`Fault::WRITE_FAILED`] alone.
 pub fn write_fault<W: Sink>(writer: &mut W, fault: Fault, format: Format) -> Result<(), Fault>
-    ensures written { AsWritten result (W.failure_count writer.old) (W.failure_count writer.new) }
+    ensures written { AsWritten W.failure_count result writer.old writer.new }
 {
     match FileRefusal::told_by(fault, format) {
         Some(refused) => write_refusal(writer, &refused)?,
         None => write_record_fault(writer, fault)?,
     }
-    write_parts(
-        writer,
-        &parts![" (", fault.number, " ", fault.name(), ")\n"],
-    )
+    tell!(writer, " (", fault.number, " ", fault.name(), ")\n")
 }

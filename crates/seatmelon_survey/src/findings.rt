@@ -393,7 +393,7 @@ impl Survey {
     ///
     /// Refused by [`Fault::WRITE_FAILED`] alone.
     pub fn write<W: Sink>(&self, writer: &mut W) -> Result<(), Fault>
-        ensures written { AsWritten result (W.failure_count writer.old) (W.failure_count writer.new) }
+        ensures written { AsWritten W.failure_count result writer.old writer.new }
     {
         write_summary(writer, self)?;
         write_cuts(writer, self)?;

@@ -13,13 +13,6 @@ use rasta_pcap::stream::RecordReader;
 use rasta_pcap::{Fault, Record, Source};
 use std::alloc::Global;
 
-// Whether a fault is one of the capture, and no lack of memory or failed read.
-fn is_refusal(fault: Fault) -> bool
-    ensures { result ≡ nat_le not_pcap fault.number }
-{
-    fault.number >= Fault::NOT_PCAP
-}
-
 /// Reads a capture to its end, or up to a record that has a fault, and answers the connections that it seems to hold.
 /// What isn't RaSTA over UDP is passed over. The quiet points of one connection may be wanted behind a record.
 ///
@@ -44,7 +37,7 @@ pub fn survey<R: Source>(
         let number = match records.advance(reader) {
             Ok(Some(number)) => number,
             Ok(None) => return Ok(survey),
-            Err(fault) if is_refusal(fault) => {
+            Err(fault) if fault.is_refusal() => {
                 survey.set_fault(fault);
                 return Ok(survey);
             }

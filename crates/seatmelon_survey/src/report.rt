@@ -7,25 +7,23 @@ use rasta_pdu::Kind;
 use seatmelon_capture::write_other_link_type;
 use seatmelon_connections::{ChannelCounts, Connection, NumberCounts, Party};
 use seatmelon_packets::{FitCount, Lengths};
-use seatmelon_text::{numbered, parts, write_parts, write_parts_if, write_words};
+use seatmelon_text::{numbered, parts, tell, write_parts, write_parts_if, write_words};
 
 /// Writes how much was read.
 pub fn write_summary<W: Sink>(writer: &mut W, survey: &Survey) -> Result<(), Fault>
-    ensures written { AsWritten result (W.failure_count writer.old) (W.failure_count writer.new) }
+    ensures written { AsWritten W.failure_count result writer.old writer.new }
 {
     let records = u64::from(survey.records());
     let passed_over = records.saturating_sub(survey.packets());
-    write_parts(
+    tell!(
         writer,
-        &parts![
-            "records: ",
-            records,
-            "\npackets of RaSTA: ",
-            survey.packets(),
-            "\nother records, passed over: ",
-            passed_over,
-            "\n"
-        ],
+        "records: ",
+        records,
+        "\npackets of RaSTA: ",
+        survey.packets(),
+        "\nother records, passed over: ",
+        passed_over,
+        "\n"
     )?;
     let left_out = numbered(
         "packets of further connections, left out: ",
@@ -60,13 +58,16 @@ fn names_in(connection: &Connection) -> EndNames {
 
 // Writes the id of an end, and what it said of itself at the opening.
 fn write_id<W: Sink>(writer: &mut W, name: &'static str, party: &Party) -> Result<(), Fault>
-    ensures written { AsWritten result (W.failure_count writer.old) (W.failure_count writer.new) }
+    ensures written { AsWritten W.failure_count result writer.old writer.new }
 {
-    write_parts(writer, &parts!["  ", name, " id ", party.id])?;
+    tell!(writer, "  ", name, " id ", party.id)?;
     if let Some(offer) = party.offer {
-        write_parts(
+        tell!(
             writer,
-            &parts![", version ", offer.version, ", N_sendmax ", offer.sendmax],
+            ", version ",
+            offer.version,
+            ", N_sendmax ",
+            offer.sendmax
         )?;
     }
     write_words(writer, "\n")
@@ -74,30 +75,25 @@ fn write_id<W: Sink>(writer: &mut W, name: &'static str, party: &Party) -> Resul
 
 // Writes when the first and the last record were captured.
 fn write_times<W: Sink>(writer: &mut W, connection: &Connection) -> Result<(), Fault>
-    ensures written { AsWritten result (W.failure_count writer.old) (W.failure_count writer.new) }
+    ensures written { AsWritten W.failure_count result writer.old writer.new }
 {
     let (Some(first), Some(last)) = (connection.first_time(), connection.last_time()) else {
         return Ok(());
     };
-    write_parts(
-        writer,
-        &parts!["  captured from ", first, " to ", last, " UTC\n"],
-    )
+    tell!(writer, "  captured from ", first, " to ", last, " UTC\n")
 }
 
 // Writes where the connection stands in the capture, and whether its opening does.
 fn write_extent<W: Sink>(writer: &mut W, connection: &Connection) -> Result<(), Fault>
-    ensures written { AsWritten result (W.failure_count writer.old) (W.failure_count writer.new) }
+    ensures written { AsWritten W.failure_count result writer.old writer.new }
 {
-    write_parts(
+    tell!(
         writer,
-        &parts![
-            "  records ",
-            connection.first_record(),
-            " to ",
-            connection.last_record(),
-            "\n"
-        ],
+        "  records ",
+        connection.first_record(),
+        " to ",
+        connection.last_record(),
+        "\n"
     )?;
     write_times(writer, connection)?;
     if !connection.has_opening() {
@@ -112,43 +108,39 @@ fn write_extent<W: Sink>(writer: &mut W, connection: &Connection) -> Result<(), 
 
 // Writes a disconnection request of an end.
 fn write_ending<W: Sink>(writer: &mut W, name: &'static str, party: &Party) -> Result<(), Fault>
-    ensures written { AsWritten result (W.failure_count writer.old) (W.failure_count writer.new) }
+    ensures written { AsWritten W.failure_count result writer.old writer.new }
 {
     let Some(ending) = party.ending else {
         return Ok(());
     };
-    write_parts(
+    tell!(
         writer,
-        &parts![
-            "  ended by the ",
-            name,
-            " at record ",
-            ending.record,
-            ", reason ",
-            ending.reason,
-            "\n"
-        ],
+        "  ended by the ",
+        name,
+        " at record ",
+        ending.record,
+        ", reason ",
+        ending.reason,
+        "\n"
     )
 }
 
 // Writes how many late copies there are, and in which records.
 fn write_late_copies<W: Sink>(writer: &mut W, connection: &Connection) -> Result<(), Fault>
-    ensures written { AsWritten result (W.failure_count writer.old) (W.failure_count writer.new) }
+    ensures written { AsWritten W.failure_count result writer.old writer.new }
 {
     let Some(copies) = connection.late_copies() else {
         return Ok(());
     };
-    write_parts(
+    tell!(
         writer,
-        &parts![
-            "  late copies of its opening and of what came behind it: ",
-            copies.count,
-            ", the first in record ",
-            copies.first_record,
-            ", the last in record ",
-            copies.last_record,
-            "\n"
-        ],
+        "  late copies of its opening and of what came behind it: ",
+        copies.count,
+        ", the first in record ",
+        copies.first_record,
+        ", the last in record ",
+        copies.last_record,
+        "\n"
     )
 }
 
@@ -159,27 +151,25 @@ fn write_channel<W: Sink>(
     names: EndNames,
     counts: &ChannelCounts,
 ) -> Result<(), Fault>
-    ensures written { AsWritten result (W.failure_count writer.old) (W.failure_count writer.new) }
+    ensures written { AsWritten W.failure_count result writer.old writer.new }
 {
-    write_parts(
+    tell!(
         writer,
-        &parts![
-            "  channel ",
-            place.saturating_add(1),
-            ": ",
-            counts.channel.client,
-            " - ",
-            counts.channel.server,
-            ", packets to the ",
-            names.second,
-            ": ",
-            counts.to_second,
-            ", to the ",
-            names.first,
-            ": ",
-            counts.to_first,
-            "\n"
-        ],
+        "  channel ",
+        place.saturating_add(1),
+        ": ",
+        counts.channel.client,
+        " - ",
+        counts.channel.server,
+        ", packets to the ",
+        names.second,
+        ": ",
+        counts.to_second,
+        ", to the ",
+        names.first,
+        ": ",
+        counts.to_first,
+        "\n"
     )
 }
 
@@ -188,7 +178,7 @@ fn write_channels<W: Sink>(
     names: EndNames,
     channels: &[ChannelCounts],
 ) -> Result<(), Fault>
-    ensures written { AsWritten result (W.failure_count writer.old) (W.failure_count writer.new) }
+    ensures written { AsWritten W.failure_count result writer.old writer.new }
 {
     for (place, counts) in channels.iter().enumerate() {
         write_channel(writer, place as u64, names, counts)?;
@@ -204,7 +194,7 @@ fn write_fit<W: Sink>(
     count: u64,
     packets: u64,
 ) -> Result<(), Fault>
-    ensures written { AsWritten result (W.failure_count writer.old) (W.failure_count writer.new) }
+    ensures written { AsWritten W.failure_count result writer.old writer.new }
 {
     write_parts_if(
         writer,
@@ -230,7 +220,7 @@ fn write_code_fit<W: Sink>(
     count: FitCount,
     packets: u64,
 ) -> Result<(), Fault>
-    ensures written { AsWritten result (W.failure_count writer.old) (W.failure_count writer.new) }
+    ensures written { AsWritten W.failure_count result writer.old writer.new }
 {
     write_fit(writer, "safety", length, count.forms, packets)?;
     write_parts_if(
@@ -245,7 +235,7 @@ fn write_code_fit<W: Sink>(
 }
 
 fn write_lengths<W: Sink>(writer: &mut W, lengths: &Lengths) -> Result<(), Fault>
-    ensures written { AsWritten result (W.failure_count writer.old) (W.failure_count writer.new) }
+    ensures written { AsWritten W.failure_count result writer.old writer.new }
 {
     write_code_fit(writer, 0, lengths.no_code, lengths.pdus)?;
     write_code_fit(writer, 8, lengths.short_code, lengths.pdus)?;
@@ -257,7 +247,7 @@ fn write_lengths<W: Sink>(writer: &mut W, lengths: &Lengths) -> Result<(), Fault
 
 // Writes how many PDUs of each type an end sent, without copies.
 fn write_kinds<W: Sink>(writer: &mut W, name: &'static str, party: &Party) -> Result<(), Fault>
-    ensures written { AsWritten result (W.failure_count writer.old) (W.failure_count writer.new) }
+    ensures written { AsWritten W.failure_count result writer.old writer.new }
 {
     for kind in Kind::ALL {
         let count = party.kinds.count(kind);
@@ -275,26 +265,24 @@ fn write_gap<W: Sink>(
     name: &'static str,
     counts: &NumberCounts,
 ) -> Result<(), Fault>
-    ensures written { AsWritten result (W.failure_count writer.old) (W.failure_count writer.new) }
+    ensures written { AsWritten W.failure_count result writer.old writer.new }
 {
     let Some(first) = counts.first_gap else {
         return Ok(());
     };
-    write_parts(
+    tell!(
         writer,
-        &parts![
-            "  ",
-            name,
-            "'s gaps: ",
-            counts.gaps,
-            ", numbers missing: ",
-            counts.missing,
-            ", the first: ",
-            first.missing,
-            " at record ",
-            first.record,
-            "\n"
-        ],
+        "  ",
+        name,
+        "'s gaps: ",
+        counts.gaps,
+        ", numbers missing: ",
+        counts.missing,
+        ", the first: ",
+        first.missing,
+        " at record ",
+        first.record,
+        "\n"
     )
 }
 
@@ -305,7 +293,7 @@ fn write_count<W: Sink>(
     what: &'static str,
     count: u64,
 ) -> Result<(), Fault>
-    ensures written { AsWritten result (W.failure_count writer.old) (W.failure_count writer.new) }
+    ensures written { AsWritten W.failure_count result writer.old writer.new }
 {
     write_parts_if(writer, count > 0, &parts!["  ", name, what, count, "\n"])
 }
@@ -316,7 +304,7 @@ fn write_repeats<W: Sink>(
     name: &'static str,
     counts: &NumberCounts,
 ) -> Result<(), Fault>
-    ensures written { AsWritten result (W.failure_count writer.old) (W.failure_count writer.new) }
+    ensures written { AsWritten W.failure_count result writer.old writer.new }
 {
     write_count(writer, name, "'s numbers that came late: ", counts.late)?;
     write_count(writer, name, "'s copies: ", counts.copies)?;
@@ -331,7 +319,7 @@ fn write_repeats<W: Sink>(
 
 // Writes what an end sent.
 fn write_sent<W: Sink>(writer: &mut W, name: &'static str, party: &Party) -> Result<(), Fault>
-    ensures written { AsWritten result (W.failure_count writer.old) (W.failure_count writer.new) }
+    ensures written { AsWritten W.failure_count result writer.old writer.new }
 {
     let counts = party.numbers.counts();
     write_kinds(writer, name, party)?;
@@ -345,7 +333,7 @@ fn write_frame<W: Sink>(
     names: EndNames,
     connection: &Connection,
 ) -> Result<(), Fault>
-    ensures written { AsWritten result (W.failure_count writer.old) (W.failure_count writer.new) }
+    ensures written { AsWritten W.failure_count result writer.old writer.new }
 {
     write_id(writer, names.first, connection.first())?;
     write_id(writer, names.second, connection.second())?;
@@ -366,7 +354,7 @@ pub fn write_connection<W: Sink>(
     place: u64,
     connection: &Connection,
 ) -> Result<(), Fault>
-    ensures written { AsWritten result (W.failure_count writer.old) (W.failure_count writer.new) }
+    ensures written { AsWritten W.failure_count result writer.old writer.new }
 {
     let names = names_in(connection);
     write_parts(writer, &numbered("\nconnection ", place.saturating_add(1)))?;

@@ -8,13 +8,13 @@ use seatmelon_audit::{Answer, Audit, Conveyed, Explained, Refusal, Subject};
 use seatmelon_pcapng::Format;
 use seatmelon_survey::FileRefusal;
 use seatmelon_text::json::{write_long, write_string};
-use seatmelon_text::{parts, write_parts, write_words};
+use seatmelon_text::{tell, write_words};
 
 // Writes how many messages an end sent, and how many of them were surely taken, under its name.
 fn write_conveyed<W: Sink>(writer: &mut W, sender: Side, conveyed: Conveyed) -> Result<(), Fault>
     ensures err { IfErr result (λ f. f ≡ write_failed) }
 {
-    write_parts(writer, &parts![",\"", sender, "\":{\"sent\":"])?;
+    tell!(writer, ",\"", sender, "\":{\"sent\":")?;
     write_long(writer, conveyed.sent)?;
     write_words(writer, ",\"surely_taken\":")?;
     write_long(writer, conveyed.taken)?;
@@ -36,7 +36,7 @@ fn write_time<W: Sink>(writer: &mut W, time: Option<CaptureTime>) -> Result<(), 
     ensures err { IfErr result (λ f. f ≡ write_failed) }
 {
     match time {
-        Some(time) => write_parts(writer, &parts![",\"time\":\"", time, " UTC\""]),
+        Some(time) => tell!(writer, ",\"time\":\"", time, " UTC\""),
         None => write_words(writer, ",\"time\":null"),
     }
 }
@@ -47,7 +47,7 @@ fn write_subject<W: Sink>(writer: &mut W, subject: Option<Subject>) -> Result<()
 {
     match subject {
         Some(subject) => {
-            write_parts(writer, &parts![",\"record\":", subject.record])?;
+            tell!(writer, ",\"record\":", subject.record)?;
             write_time(writer, subject.time)
         }
         None => write_words(writer, ",\"record\":null,\"time\":null"),
@@ -59,7 +59,7 @@ fn write_end<W: Sink>(writer: &mut W, end: Option<Side>) -> Result<(), Fault>
     ensures err { IfErr result (λ f. f ≡ write_failed) }
 {
     match end {
-        Some(end) => write_parts(writer, &parts![",\"end\":\"", end, "\""]),
+        Some(end) => tell!(writer, ",\"end\":\"", end, "\""),
         None => write_words(writer, ",\"end\":null"),
     }
 }
@@ -68,15 +68,13 @@ fn write_end<W: Sink>(writer: &mut W, end: Option<Side>) -> Result<(), Fault>
 fn write_fault<W: Sink>(writer: &mut W, fault: Fault) -> Result<(), Fault>
     ensures err { IfErr result (λ f. f ≡ write_failed) }
 {
-    write_parts(
+    tell!(
         writer,
-        &parts![
-            "{\"number\":",
-            fault.number,
-            ",\"name\":\"",
-            fault.name(),
-            "\""
-        ],
+        "{\"number\":",
+        fault.number,
+        ",\"name\":\"",
+        fault.name(),
+        "\""
     )
 }
 
@@ -112,7 +110,7 @@ fn write_answer<W: Sink>(
 ) -> Result<(), Fault>
     ensures err { IfErr result (λ f. f ≡ write_failed) }
 {
-    write_parts(writer, &parts![before, "{\"name\":"])?;
+    tell!(writer, before, "{\"name\":")?;
     write_string(writer, name)?;
     write_words(writer, ",\"verdict\":")?;
     write_verdict(writer, answer)?;
@@ -138,7 +136,7 @@ fn write_record<W: Sink>(writer: &mut W, place: u32) -> Result<(), Fault>
     if place == 0 {
         return write_words(writer, ",\"record\":null");
     }
-    write_parts(writer, &parts![",\"record\":", place])
+    tell!(writer, ",\"record\":", place)
 }
 
 // Writes at which block a file is refused, and why, if it is.
@@ -181,7 +179,7 @@ fn write_other_link_type<W: Sink>(writer: &mut W, format: Format) -> Result<(), 
     ensures err { IfErr result (λ f. f ≡ write_failed) }
 {
     match format.other_link_type() {
-        Some(link_type) => write_parts(writer, &parts![",\"other_link_type\":", link_type]),
+        Some(link_type) => tell!(writer, ",\"other_link_type\":", link_type),
         None => Ok(()),
     }
 }
@@ -198,17 +196,15 @@ pub fn write_audit_json<W: Sink>(
 {
     write_words(writer, "{\"connections\":[")?;
     write_answers(writer, names, audit.answers.as_slice())?;
-    write_parts(
+    tell!(
         writer,
-        &parts![
-            "],\"records\":",
-            audit.records,
-            ",\"packets\":",
-            Counts::of(audit).packets,
-            ",\"others\":",
-            audit.others,
-            ",\"fault\":"
-        ],
+        "],\"records\":",
+        audit.records,
+        ",\"packets\":",
+        Counts::of(audit).packets,
+        ",\"others\":",
+        audit.others,
+        ",\"fault\":"
     )?;
     write_file_fault(writer, audit.fault, format)?;
     write_other_link_type(writer, format)?;

@@ -8,7 +8,7 @@ use seatmelon_audit::{Answer, Audit, Conveyed, Explained, Refusal, Subject};
 use seatmelon_capture::write_other_link_type;
 use seatmelon_pcapng::Format;
 use seatmelon_survey::write_fault;
-use seatmelon_text::{parts, write_parts, write_words};
+use seatmelon_text::{tell, write_words};
 
 // What so many are called.
 fn named(count: u64, one: &'static str, many: &'static str) -> &'static str {
@@ -24,19 +24,17 @@ fn write_conveyed<W: Sink>(
 ) -> Result<(), Fault>
     ensures err { IfErr result (λ f. f ≡ write_failed) }
 {
-    write_parts(
+    tell!(
         writer,
-        &parts![
-            "; ",
-            sender,
-            " to ",
-            sender.other(),
-            ": ",
-            conveyed.taken,
-            " of ",
-            conveyed.sent,
-            behind
-        ],
+        "; ",
+        sender,
+        " to ",
+        sender.other(),
+        ": ",
+        conveyed.taken,
+        " of ",
+        conveyed.sent,
+        behind
     )
 }
 
@@ -45,13 +43,11 @@ fn write_explained<W: Sink>(writer: &mut W, explained: &Explained) -> Result<(),
     ensures err { IfErr result (λ f. f ≡ write_failed) }
 {
     let packets = explained.packets;
-    write_parts(
+    tell!(
         writer,
-        &parts![
-            "explained, ",
-            packets,
-            named(packets, " packet", " packets")
-        ],
+        "explained, ",
+        packets,
+        named(packets, " packet", " packets")
     )?;
     let messages = named(
         explained.client.sent,
@@ -67,7 +63,7 @@ fn write_time_if<W: Sink>(writer: &mut W, time: Option<CaptureTime>) -> Result<(
     ensures err { IfErr result (λ f. f ≡ write_failed) }
 {
     match time {
-        Some(time) => write_parts(writer, &parts![", ", time, " UTC"]),
+        Some(time) => tell!(writer, ", ", time, " UTC"),
         None => Ok(()),
     }
 }
@@ -78,7 +74,7 @@ fn write_subject_if<W: Sink>(writer: &mut W, subject: Option<Subject>) -> Result
 {
     match subject {
         Some(subject) => {
-            write_parts(writer, &parts![", record ", subject.record])?;
+            tell!(writer, ", record ", subject.record)?;
             write_time_if(writer, subject.time)
         }
         None => Ok(()),
@@ -90,7 +86,7 @@ fn write_end_if<W: Sink>(writer: &mut W, end: Option<Side>) -> Result<(), Fault>
     ensures err { IfErr result (λ f. f ≡ write_failed) }
 {
     match end {
-        Some(end) => write_parts(writer, &parts![", ", end]),
+        Some(end) => tell!(writer, ", ", end),
         None => Ok(()),
     }
 }
@@ -100,10 +96,7 @@ fn write_refusal<W: Sink>(writer: &mut W, refusal: &Refusal) -> Result<(), Fault
     ensures err { IfErr result (λ f. f ≡ write_failed) }
 {
     let fault = refusal.fault;
-    write_parts(
-        writer,
-        &parts!["refused by ", fault.number, " ", fault.name()],
-    )?;
+    tell!(writer, "refused by ", fault.number, " ", fault.name())?;
     write_subject_if(writer, refusal.subject)?;
     write_end_if(writer, fault.end)?;
     write_words(writer, "\n")
@@ -113,7 +106,7 @@ fn write_refusal<W: Sink>(writer: &mut W, refusal: &Refusal) -> Result<(), Fault
 fn write_answer<W: Sink>(writer: &mut W, name: &str, answer: &Answer) -> Result<(), Fault>
     ensures err { IfErr result (λ f. f ≡ write_failed) }
 {
-    write_parts(writer, &parts![name, ": "])?;
+    tell!(writer, name, ": ")?;
     match answer {
         Answer::NoPackets => write_words(writer, "no packets\n"),
         Answer::Refused(refusal) => write_refusal(writer, refusal),
@@ -148,7 +141,7 @@ fn write_kinds<W: Sink>(writer: &mut W, counts: &Counts) -> Result<(), Fault>
         (counts.out_of_memory, " out of memory"),
     ] {
         if count > 0 {
-            write_parts(writer, &parts![before, count, kind])?;
+            tell!(writer, before, count, kind)?;
             before = ", ";
         }
     }
@@ -163,25 +156,21 @@ fn write_counts<W: Sink>(writer: &mut W, audit: &Audit) -> Result<(), Fault>
     let counts = Counts::of(audit);
     let packets = u64::from(counts.packets);
     let others = u64::from(audit.others);
-    write_parts(
+    tell!(
         writer,
-        &parts![
-            connections,
-            named(connections, " connection", " connections")
-        ],
+        connections,
+        named(connections, " connection", " connections")
     )?;
     write_kinds(writer, &counts)?;
-    write_parts(
+    tell!(
         writer,
-        &parts![
-            "; ",
-            packets,
-            named(packets, " packet", " packets"),
-            "; ",
-            others,
-            named(others, " record", " records"),
-            " of none of them\n"
-        ],
+        "; ",
+        packets,
+        named(packets, " packet", " packets"),
+        "; ",
+        others,
+        named(others, " record", " records"),
+        " of none of them\n"
     )
 }
 

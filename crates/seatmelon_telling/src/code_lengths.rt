@@ -4,7 +4,7 @@ ghost use Rattle.rasta_pcap.specs.Fault.{write_failed};
 
 use rasta_pcap::{Fault, Sink};
 use seatmelon_packets::{Fit, Fits};
-use seatmelon_text::{parts, write_parts};
+use seatmelon_text::tell;
 
 /// Writes them, with `first` before the first one and `next` before each other one.
 pub fn write_code_lengths<'a, W: Sink>(
@@ -22,7 +22,7 @@ pub fn write_code_lengths<'a, W: Sink>(
         (16, fits.long_code),
     ] {
         if fit != Fit::None {
-            write_parts(writer, &parts![before, length])?;
+            tell!(writer, before, length)?;
             before = next;
         }
     }

@@ -7,7 +7,7 @@ use crate::page::{write_judged, write_records, write_without};
 use rasta_pcap::{Fault, Side, Sink};
 use rasta_pdu::QuietEnd;
 use seatmelon_account::{Account, Direction, Explained, Extent, Start};
-use seatmelon_text::{Part, parts, write_parts, write_words};
+use seatmelon_text::{Part, parts, tell, write_parts, write_words};
 
 const SAYS: &str = "
 What this says:
@@ -74,7 +74,7 @@ fn write_optional<W: Sink>(writer: &mut W, words: &str, number: Option<u64>) -> 
     ensures err { IfErr result (λ f. f ≡ write_failed) }
 {
     match number {
-        Some(number) => write_parts(writer, &parts![words, number]),
+        Some(number) => tell!(writer, words, number),
         None => Ok(()),
     }
 }
@@ -83,16 +83,14 @@ fn write_optional<W: Sink>(writer: &mut W, words: &str, number: Option<u64>) -> 
 fn write_quiet_end<W: Sink>(writer: &mut W, side: Side, end: &QuietEnd) -> Result<(), Fault>
     ensures err { IfErr result (λ f. f ≡ write_failed) }
 {
-    write_parts(
+    tell!(
         writer,
-        &parts![
-            "    ",
-            side,
-            ": next SN ",
-            end.next_sn,
-            ", clock ",
-            end.clock
-        ],
+        "    ",
+        side,
+        ": next SN ",
+        end.next_sn,
+        ", clock ",
+        end.clock
     )?;
     write_optional(writer, ", deadline ", end.deadline)?;
     write_optional(writer, ", TS handed up last ", end.handed_ts.map(u64::from))?;
@@ -103,7 +101,7 @@ fn write_quiet_end<W: Sink>(writer: &mut W, side: Side, end: &QuietEnd) -> Resul
 pub fn write_premise<W: Sink>(writer: &mut W, words: &str) -> Result<(), Fault>
     ensures err { IfErr result (λ f. f ≡ write_failed) }
 {
-    write_parts(writer, &parts!["  ", words, "\n"])
+    tell!(writer, "  ", words, "\n")
 }
 
 /// Writes where what is judged begins.
@@ -126,26 +124,20 @@ pub fn write_start<W: Sink>(writer: &mut W, start: &Start) -> Result<(), Fault>
 fn write_taken<W: Sink>(writer: &mut W, direction: &Direction<'_>) -> Result<(), Fault>
     ensures err { IfErr result (λ f. f ≡ write_failed) }
 {
-    write_parts(
+    tell!(
         writer,
-        &parts![
-            direction.sender,
-            " to ",
-            direction.sender.other(),
-            ": ",
-            direction.taken,
-            " of ",
-            direction.messages.len() as u64,
-            " messages surely taken"
-        ],
+        direction.sender,
+        " to ",
+        direction.sender.other(),
+        ": ",
+        direction.taken,
+        " of ",
+        direction.messages.len() as u64,
+        " messages surely taken"
     )?;
     match direction.not_shown() {
-        Some((first, last)) if first == last => {
-            write_parts(writer, &parts!["; not shown: ", first, "\n"])
-        }
-        Some((first, last)) => {
-            write_parts(writer, &parts!["; not shown: ", first, " to ", last, "\n"])
-        }
+        Some((first, last)) if first == last => { tell!(writer, "; not shown: ", first, "\n") }
+        Some((first, last)) => { tell!(writer, "; not shown: ", first, " to ", last, "\n") }
         None => write_words(writer, "\n"),
     }
 }
@@ -156,13 +148,11 @@ fn write_sentence<W: Sink>(writer: &mut W, account: &Account<'_>, packets: u32) 
 {
     write_words(writer, "explained")?;
     write_without(writer, account.without)?;
-    write_parts(
+    tell!(
         writer,
-        &parts![
-            ": two ends that keep the rules can have sent these ",
-            packets,
-            " packets"
-        ],
+        ": two ends that keep the rules can have sent these ",
+        packets,
+        " packets"
     )?;
     write_records(writer, account, ", the packets in ")?;
     write_words(writer, "\n")

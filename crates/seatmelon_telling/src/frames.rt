@@ -7,7 +7,7 @@ use crate::words::Hint;
 use rasta_pcap::{Fault, Sink};
 use seatmelon_capture::{FileHeader, link_type_name};
 use seatmelon_text::json::write_string;
-use seatmelon_text::{Part, parts, write_parts, write_words};
+use seatmelon_text::{Part, tell, write_words};
 
 // Link types: Ethernet, and what Linux captures on the interface 'any', in two versions.
 const ETHERNET: u16 = 1;
@@ -66,9 +66,9 @@ pub fn refused_link_type(fault: Fault, header: Option<FileHeader>) -> Option<u16
 pub fn write_named<W: Sink>(writer: &mut W, link_type: u16) -> Result<(), Fault>
     ensures err { IfErr result (λ f. f ≡ write_failed) }
 {
-    write_parts(writer, &parts!["link type ", link_type])?;
+    tell!(writer, "link type ", link_type)?;
     match link_type_name(link_type) {
-        Some(name) => write_parts(writer, &parts![" (", name, ")"]),
+        Some(name) => tell!(writer, " (", name, ")"),
         None => Ok(()),
     }
 }
@@ -107,13 +107,11 @@ pub fn write_snapshot<W: Sink>(
     ensures err { IfErr result (λ f. f ≡ write_failed) }
 {
     match told_snapshot(fault, header) {
-        Some(length) => write_parts(
+        Some(length) => tell!(
             writer,
-            &parts![
-                "  snapshot length in the file's header: ",
-                length,
-                " bytes\n"
-            ],
+            "  snapshot length in the file's header: ",
+            length,
+            " bytes\n"
         ),
         None => Ok(()),
     }
@@ -142,10 +140,7 @@ pub fn write_link_type_json<W: Sink>(
     let Some(link_type) = refused_link_type(fault, header) else {
         return write_words(writer, ",\"link_type\":null,\"link_type_name\":null");
     };
-    write_parts(
-        writer,
-        &parts![",\"link_type\":", link_type, ",\"link_type_name\":"],
-    )?;
+    tell!(writer, ",\"link_type\":", link_type, ",\"link_type_name\":")?;
     match link_type_name(link_type) {
         Some(name) => write_string(writer, name),
         None => write_words(writer, "null"),

@@ -6,7 +6,7 @@ use crate::page::{write_place, write_sighting};
 use rasta_pcap::{Fault, Sink};
 use seatmelon_account::Gap;
 use seatmelon_reading::Sighting;
-use seatmelon_text::{parts, write_parts, write_words};
+use seatmelon_text::{tell, write_words};
 
 /// From this number of skipped ones on, modulo 2^32, a number lies before the one that was due.
 const BEFORE: u32 = 1 << 31;
@@ -49,11 +49,8 @@ fn write_numbers<W: Sink>(
 ) -> Result<(), Fault>
     ensures err { IfErr result (λ f. f ≡ write_failed) }
 {
-    write_parts(
-        writer,
-        &parts![
-            "  ", name, " due: ", due, "\n  ", name, " found: ", found, "\n"
-        ],
+    tell!(
+        writer, "  ", name, " due: ", due, "\n  ", name, " found: ", found, "\n"
     )
 }
 
@@ -61,7 +58,7 @@ fn write_numbers<W: Sink>(
 fn write_later<W: Sink>(writer: &mut W, due: u32, later: Option<&Sighting>) -> Result<(), Fault>
     ensures err { IfErr result (λ f. f ≡ write_failed) }
 {
-    write_parts(writer, &parts!["  ", due])?;
+    tell!(writer, "  ", due)?;
     match later {
         Some(sighting) => {
             write_words(writer, " crosses later: ")?;
@@ -77,23 +74,19 @@ fn write_skipped<W: Sink>(writer: &mut W, gap: &Gap) -> Result<(), Fault>
     ensures err { IfErr result (λ f. f ≡ write_failed) }
 {
     match (reason_of(gap), gap.sn_skipped()) {
-        (Reason::WholePdus, _) => write_parts(
+        (Reason::WholePdus, _) => tell!(
             writer,
-            &parts![
-                "  both numbers skip ",
-                gap.skipped(),
-                ", as where so many whole PDUs never reached the tap or were cut from the file\n"
-            ],
+            "  both numbers skip ",
+            gap.skipped(),
+            ", as where so many whole PDUs never reached the tap or were cut from the file\n"
         ),
-        (Reason::Numbers, Some(skipped)) => write_parts(
+        (Reason::Numbers, Some(skipped)) => tell!(
             writer,
-            &parts![
-                "  the redundancy number skips ",
-                gap.skipped(),
-                ", and SN ",
-                skipped,
-                ", as where an end leaves numbers out\n"
-            ],
+            "  the redundancy number skips ",
+            gap.skipped(),
+            ", and SN ",
+            skipped,
+            ", as where an end leaves numbers out\n"
         ),
         (Reason::Late, _) => write_words(writer, "  the number found lies before the one due\n"),
         _ => Ok(()),
@@ -109,15 +102,13 @@ pub fn write_gap<W: Sink>(writer: &mut W, packets: &[Sighting], gap: &Gap) -> Re
     if let Some(found) = gap.sn_found {
         write_numbers(writer, "SN", due.sn, found)?;
     }
-    write_parts(
+    tell!(
         writer,
-        &parts![
-            "  the end's last number before it: ",
-            gap.last.numbers.redundancy,
-            ", SN ",
-            gap.last.numbers.sn,
-            ", first in "
-        ],
+        "  the end's last number before it: ",
+        gap.last.numbers.redundancy,
+        ", SN ",
+        gap.last.numbers.sn,
+        ", first in "
     )?;
     write_place(writer, packets, gap.last.place)?;
     write_later(writer, due.redundancy, gap.later.as_ref())?;

@@ -14,7 +14,7 @@ use seatmelon_account::{Account, File, Verdict};
 use seatmelon_pcapng::Format;
 use seatmelon_reading::{ChannelCount, Window};
 use seatmelon_text::json::{write_long, write_string};
-use seatmelon_text::{Part, parts, write_parts, write_words};
+use seatmelon_text::{Part, tell, write_words};
 
 // Writes a file's name and its SHA-256, as an object that is yet to be ended.
 fn begin_file<W: Sink>(writer: &mut W, file: &File<'_>) -> Result<(), Fault>
@@ -22,10 +22,7 @@ fn begin_file<W: Sink>(writer: &mut W, file: &File<'_>) -> Result<(), Fault>
 {
     write_words(writer, "{\"name\":")?;
     write_string(writer, file.name)?;
-    write_parts(
-        writer,
-        &parts![",\"sha256\":\"", Part::Hex(&file.sum), "\""],
-    )
+    tell!(writer, ",\"sha256\":\"", Part::Hex(&file.sum), "\"")
 }
 
 // Writes a file's name and its SHA-256.
@@ -46,7 +43,7 @@ fn write_format<W: Sink>(writer: &mut W, format: Format) -> Result<(), Fault>
     }
     write_words(writer, ",\"format\":\"pcapng\"")?;
     match format.other_link_type() {
-        Some(link_type) => write_parts(writer, &parts![",\"other_link_type\":", link_type]),
+        Some(link_type) => tell!(writer, ",\"other_link_type\":", link_type),
         None => Ok(()),
     }
 }
@@ -89,7 +86,7 @@ fn write_without<W: Sink>(writer: &mut W, without: &[u32]) -> Result<(), Fault>
     write_words(writer, ",\"without\":[")?;
     let mut before = "";
     for number in without {
-        write_parts(writer, &parts![before, *number])?;
+        tell!(writer, before, *number)?;
         before = ",";
     }
     write_words(writer, "]")
@@ -99,7 +96,7 @@ fn write_without<W: Sink>(writer: &mut W, without: &[u32]) -> Result<(), Fault>
 pub fn write_count<W: Sink>(writer: &mut W, key: &'static str, count: u64) -> Result<(), Fault>
     ensures err { IfErr result (λ f. f ≡ write_failed) }
 {
-    write_parts(writer, &parts![",\"", key, "\":"])?;
+    tell!(writer, ",\"", key, "\":")?;
     write_long(writer, count)
 }
 
@@ -114,13 +111,11 @@ fn write_window<W: Sink>(
     let Some(window) = window else {
         return write_words(writer, ",\"window\":null");
     };
-    write_parts(
+    tell!(
         writer,
-        &parts![
-            ",\"window\":{\"first_record\":",
-            window.first_record,
-            ",\"last_record\":"
-        ],
+        ",\"window\":{\"first_record\":",
+        window.first_record,
+        ",\"last_record\":"
     )?;
     write_number_if(writer, window.last_record)?;
     write_count(writer, "packets_before", account.before)?;
@@ -137,7 +132,7 @@ fn write_channel<W: Sink>(
 ) -> Result<(), Fault>
     ensures err { IfErr result (λ f. f ≡ write_failed) }
 {
-    write_parts(writer, &parts![before, "{\"channel\":", number])?;
+    tell!(writer, before, "{\"channel\":", number)?;
     write_count(writer, "from_client", count.client)?;
     write_count(writer, "from_server", count.server)?;
     write_words(writer, "}")
@@ -160,7 +155,7 @@ fn write_channels<W: Sink>(writer: &mut W, channels: &[ChannelCount]) -> Result<
 fn write_counts<W: Sink>(writer: &mut W, account: &Account<'_>) -> Result<(), Fault>
     ensures err { IfErr result (λ f. f ≡ write_failed) }
 {
-    write_parts(writer, &parts![",\"records_read\":", account.records])?;
+    tell!(writer, ",\"records_read\":", account.records)?;
     write_window(writer, account, account.window)?;
     write_count(writer, "packets", account.packets.len() as u64)?;
     write_channels(writer, account.channels)?;
@@ -179,7 +174,7 @@ fn write_verdict<W: Sink>(writer: &mut W, account: &Account<'_>) -> Result<(), F
         Verdict::NoPackets => write_words(writer, ",\"verdict\":\"no_packets\""),
         Verdict::Refused(refusal) => {
             let verdict = verdict_with(account.hypothesis.as_ref());
-            write_parts(writer, &parts![",\"verdict\":\"", verdict, "\""])?;
+            tell!(writer, ",\"verdict\":\"", verdict, "\"")?;
             write_refusal(writer, account, refusal)?;
             write_supposed(writer, account)
         }
@@ -194,7 +189,7 @@ fn write_verdict<W: Sink>(writer: &mut W, account: &Account<'_>) -> Result<(), F
 pub fn write_json<W: Sink>(writer: &mut W, account: &Account<'_>) -> Result<(), Fault>
     ensures err { IfErr result (λ f. f ≡ write_failed) }
 {
-    write_parts(writer, &parts!["{\"program\":\"", PROGRAM, "\""])?;
+    tell!(writer, "{\"program\":\"", PROGRAM, "\"")?;
     write_files(writer, account)?;
     write_without(writer, account.without)?;
     write_counts(writer, account)?;

@@ -9,7 +9,7 @@ use rasta_pdu::QuietEnd;
 use seatmelon_account::{Direction, Explained, Message, Start};
 use seatmelon_reading::Sighting;
 use seatmelon_text::json::{quotes_of, write_bytes, write_long, write_sentence};
-use seatmelon_text::{Part, Room, parts, put_parts, write_parts, write_words};
+use seatmelon_text::{Part, Room, parts, put_parts, tell, write_parts, write_words};
 
 /// Writes the premise on where what is judged begins, as the last of a list.
 pub fn write_start_premise<W: Sink>(writer: &mut W, start: &Start) -> Result<(), Fault>
@@ -40,7 +40,7 @@ fn write_premises<W: Sink>(writer: &mut W, explained: &Explained<'_>) -> Result<
 fn write_quiet_end<W: Sink>(writer: &mut W, end: &QuietEnd) -> Result<(), Fault>
     ensures err { IfErr result (λ f. f ≡ write_failed) }
 {
-    write_parts(writer, &parts!["{\"next_sn\":", end.next_sn, ",\"clock\":"])?;
+    tell!(writer, "{\"next_sn\":", end.next_sn, ",\"clock\":")?;
     write_long(writer, end.clock)?;
     write_words(writer, ",\"deadline\":")?;
     write_long_if(writer, end.deadline)?;
@@ -56,13 +56,11 @@ fn write_quiet_point<W: Sink>(writer: &mut W, start: &Start) -> Result<(), Fault
     let Start::Quiet(first_record, quiet) = start else {
         return write_words(writer, ",\"quiet_point\":null");
     };
-    write_parts(
+    tell!(
         writer,
-        &parts![
-            ",\"quiet_point\":{\"first_record\":",
-            *first_record,
-            ",\"client\":"
-        ],
+        ",\"quiet_point\":{\"first_record\":",
+        *first_record,
+        ",\"client\":"
     )?;
     write_quiet_end(writer, &quiet.client)?;
     write_words(writer, ",\"server\":")?;
@@ -179,15 +177,13 @@ pub fn write_direction<W: Sink>(
     ensures err { IfErr result (λ f. f ≡ write_failed) }
 {
     let sender = direction.sender;
-    write_parts(
+    tell!(
         writer,
-        &parts![
-            "{\"from\":\"",
-            sender,
-            "\",\"to\":\"",
-            sender.other(),
-            "\",\"surely_taken\":"
-        ],
+        "{\"from\":\"",
+        sender,
+        "\",\"to\":\"",
+        sender.other(),
+        "\",\"surely_taken\":"
     )?;
     write_long(writer, direction.taken)?;
     write_words(writer, ",\"sent\":")?;
@@ -206,10 +202,7 @@ pub fn write_explained<W: Sink>(
 ) -> Result<(), Fault>
     ensures err { IfErr result (λ f. f ≡ write_failed) }
 {
-    write_parts(
-        writer,
-        &parts![",\"packets_explained\":", explained.packets],
-    )?;
+    tell!(writer, ",\"packets_explained\":", explained.packets)?;
     write_premises(writer, explained)?;
     write_quiet_point(writer, &explained.start)?;
     write_words(writer, ",\"messages\":[")?;

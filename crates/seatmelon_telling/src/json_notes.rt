@@ -9,7 +9,7 @@ use rasta_pcap::{Fault, Sink};
 use seatmelon_account::Account;
 use seatmelon_reading::{Noticed, PassedOver, Silence};
 use seatmelon_text::json::write_long;
-use seatmelon_text::{parts, write_parts, write_words};
+use seatmelon_text::{tell, write_words};
 
 /// Writes how many records hold no packet of the recorded channels, by why.
 pub fn write_passed_over<W: Sink>(writer: &mut W, passed: PassedOver) -> Result<(), Fault>
@@ -28,7 +28,7 @@ pub fn write_passed_over<W: Sink>(writer: &mut W, passed: PassedOver) -> Result<
 fn write_noticed<W: Sink>(writer: &mut W, key: &'static str, noticed: Noticed) -> Result<(), Fault>
     ensures err { IfErr result (λ f. f ≡ write_failed) }
 {
-    write_parts(writer, &parts!["\"", key, "\":{\"records\":"])?;
+    tell!(writer, "\"", key, "\":{\"records\":")?;
     write_long(writer, noticed.count)?;
     write_words(writer, ",\"first\":")?;
     write_number_if(writer, noticed.first)?;

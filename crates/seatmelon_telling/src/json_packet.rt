@@ -15,13 +15,13 @@ use seatmelon_account::{
 use seatmelon_packets::Fits;
 use seatmelon_reading::Sighting;
 use seatmelon_text::json::{write_bytes, write_long};
-use seatmelon_text::{Part, parts, write_parts, write_words};
+use seatmelon_text::{Part, tell, write_words};
 
 // Writes a number under a key, or null.
 fn write_field<W: Sink>(writer: &mut W, key: &'static str, number: Option<u32>) -> Result<(), Fault>
     ensures err { IfErr result (λ f. f ≡ write_failed) }
 {
-    write_parts(writer, &parts![",\"", key, "\":"])?;
+    tell!(writer, ",\"", key, "\":")?;
     write_number_if(writer, number)
 }
 
@@ -30,10 +30,7 @@ fn write_type_name<W: Sink>(writer: &mut W, number: Option<u16>) -> Result<(), F
     ensures err { IfErr result (λ f. f ≡ write_failed) }
 {
     match number {
-        Some(number) => write_parts(
-            writer,
-            &parts![",\"type_name\":\"", type_name(number), "\""],
-        ),
+        Some(number) => tell!(writer, ",\"type_name\":\"", type_name(number), "\""),
         None => write_words(writer, ",\"type_name\":null"),
     }
 }
@@ -72,31 +69,26 @@ pub fn write_packet_if<W: Sink>(
     let Some(packet) = packet else {
         return write_words(writer, "null");
     };
-    write_parts(
+    tell!(
         writer,
-        &parts![
-            "{\"end\":\"",
-            packet.sender,
-            "\",\"channel\":",
-            packet.channel,
-            ",\"bytes\":",
-            shown_length(packet.datagram),
-            ",\"fields\":"
-        ],
+        "{\"end\":\"",
+        packet.sender,
+        "\",\"channel\":",
+        packet.channel,
+        ",\"bytes\":",
+        shown_length(packet.datagram),
+        ",\"fields\":"
     )?;
     write_fields(writer, &Fields::of(packet.datagram))?;
     let rest = payload_and_codes(packet.datagram);
-    write_parts(
-        writer,
-        &parts![",\"payload_and_codes\":\"", Part::Hex(rest), "\"}"],
-    )
+    tell!(writer, ",\"payload_and_codes\":\"", Part::Hex(rest), "\"}")
 }
 
 // Writes a number of 64 bits that is due, as the one member of an object.
 fn write_due<W: Sink>(writer: &mut W, key: &'static str, due: u64) -> Result<(), Fault>
     ensures err { IfErr result (λ f. f ≡ write_failed) }
 {
-    write_parts(writer, &parts!["{\"", key, "\":"])?;
+    tell!(writer, "{\"", key, "\":")?;
     write_long(writer, due)?;
     write_words(writer, "}")
 }
@@ -109,15 +101,13 @@ fn write_differences<W: Sink>(writer: &mut W, differences: &Differences) -> Resu
     for difference in differences.as_slice() {
         write_words(writer, before)?;
         write_long(writer, difference.at as u64)?;
-        write_parts(
+        tell!(
             writer,
-            &parts![
-                ",\"found\":\"",
-                Part::Byte(difference.byte),
-                "\",\"first_copy\":\"",
-                Part::Byte(difference.first),
-                "\"}"
-            ],
+            ",\"found\":\"",
+            Part::Byte(difference.byte),
+            "\",\"first_copy\":\"",
+            Part::Byte(difference.first),
+            "\"}"
         )?;
         before = ",{\"at\":";
     }
@@ -174,15 +164,13 @@ fn write_first_copy<W: Sink>(
 fn write_numbers<W: Sink>(writer: &mut W, numbers: Numbers) -> Result<(), Fault>
     ensures err { IfErr result (λ f. f ≡ write_failed) }
 {
-    write_parts(
+    tell!(
         writer,
-        &parts![
-            ",\"redundancy_number\":",
-            numbers.redundancy,
-            ",\"sn\":",
-            numbers.sn,
-            "}"
-        ],
+        ",\"redundancy_number\":",
+        numbers.redundancy,
+        ",\"sn\":",
+        numbers.sn,
+        "}"
     )
 }
 
@@ -191,14 +179,12 @@ fn write_gap<W: Sink>(writer: &mut W, packets: &[Sighting], gap: &Gap) -> Result
     ensures err { IfErr result (λ f. f ≡ write_failed) }
 {
     let due = gap.due();
-    write_parts(
+    tell!(
         writer,
-        &parts![
-            "{\"number_due\":",
-            due.redundancy,
-            ",\"number_found\":",
-            gap.found
-        ],
+        "{\"number_due\":",
+        due.redundancy,
+        ",\"number_found\":",
+        gap.found
     )?;
     write_field(writer, "sn_due", Some(due.sn))?;
     write_field(writer, "sn_found", gap.sn_found)?;
@@ -221,10 +207,7 @@ fn write_gap<W: Sink>(writer: &mut W, packets: &[Sighting], gap: &Gap) -> Result
 fn write_contents<W: Sink>(writer: &mut W, bytes: &[u8]) -> Result<(), Fault>
     ensures err { IfErr result (λ f. f ≡ write_failed) }
 {
-    write_parts(
-        writer,
-        &parts!["{\"hex\":\"", Part::Hex(bytes), "\",\"text\":"],
-    )?;
+    tell!(writer, "{\"hex\":\"", Part::Hex(bytes), "\",\"text\":")?;
     write_bytes(writer, bytes)?;
     write_words(writer, "}")
 }
@@ -249,13 +232,11 @@ fn write_cut_message<W: Sink>(writer: &mut W, cut: Option<CutMessage>) -> Result
 fn write_payload<W: Sink>(writer: &mut W, layout: &Layout<'_>) -> Result<(), Fault>
     ensures err { IfErr result (λ f. f ≡ write_failed) }
 {
-    write_parts(
+    tell!(
         writer,
-        &parts![
-            "{\"payload_due\":\"",
-            layout_of(layout.kind),
-            "\",\"payload_bytes\":"
-        ],
+        "{\"payload_due\":\"",
+        layout_of(layout.kind),
+        "\",\"payload_bytes\":"
     )?;
     write_long(writer, layout.len as u64)?;
     write_words(writer, ",\"version\":")?;
@@ -272,15 +253,13 @@ fn write_payload<W: Sink>(writer: &mut W, layout: &Layout<'_>) -> Result<(), Fau
 fn write_ids<W: Sink>(writer: &mut W, receiver: u32, sender: u32) -> Result<(), Fault>
     ensures err { IfErr result (λ f. f ≡ write_failed) }
 {
-    write_parts(
+    tell!(
         writer,
-        &parts![
-            "{\"receiver_due\":",
-            receiver,
-            ",\"sender_due\":",
-            sender,
-            "}"
-        ],
+        "{\"receiver_due\":",
+        receiver,
+        ",\"sender_due\":",
+        sender,
+        "}"
     )
 }
 
@@ -333,13 +312,11 @@ pub fn write_lengths_if<W: Sink>(writer: &mut W, lengths: Option<Fits>) -> Resul
     let Some(fits) = lengths else {
         return write_words(writer, "null");
     };
-    write_parts(
+    tell!(
         writer,
-        &parts![
-            "{\"check_length\":",
-            fits.check_length,
-            ",\"code_lengths\":["
-        ],
+        "{\"check_length\":",
+        fits.check_length,
+        ",\"code_lengths\":["
     )?;
     write_code_lengths(writer, &fits, "", ",")?;
     write_words(writer, "]}")
@@ -364,24 +341,22 @@ fn write_pdu<W: Sink>(writer: &mut W, pdu: &Pdu<'_>) -> Result<(), Fault>
     ensures err { IfErr result (λ f. f ≡ write_failed) }
 {
     let kind = pdu.kind().number();
-    write_parts(
+    tell!(
         writer,
-        &parts![
-            "{\"type\":",
-            kind,
-            ",\"type_name\":\"",
-            type_name(kind),
-            "\",\"redundancy_number\":",
-            pdu.number(),
-            ",\"sn\":",
-            pdu.sn(),
-            ",\"cs\":",
-            pdu.cs(),
-            ",\"ts\":",
-            pdu.ts(),
-            ",\"cts\":",
-            pdu.cts()
-        ],
+        "{\"type\":",
+        kind,
+        ",\"type_name\":\"",
+        type_name(kind),
+        "\",\"redundancy_number\":",
+        pdu.number(),
+        ",\"sn\":",
+        pdu.sn(),
+        ",\"cs\":",
+        pdu.cs(),
+        ",\"ts\":",
+        pdu.ts(),
+        ",\"cts\":",
+        pdu.cts()
     )?;
     write_messages(writer, pdu)
 }
@@ -397,10 +372,7 @@ pub fn write_crossed_if<W: Sink>(
     let Some(crossed) = crossed else {
         return write_words(writer, "null");
     };
-    write_parts(
-        writer,
-        &parts!["{\"end\":\"", crossed.side, "\",\"packet\":"],
-    )?;
+    tell!(writer, "{\"end\":\"", crossed.side, "\",\"packet\":")?;
     write_place(writer, packets, crossed.place)?;
     write_words(writer, ",\"fields\":")?;
     match &crossed.pdu {

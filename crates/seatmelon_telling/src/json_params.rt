@@ -7,7 +7,7 @@ use rasta_pcap::{Fault, Sink};
 use rasta_pdu::Params;
 use rasta_udp::Channel;
 use seatmelon_account::{Offer, Offers, Versions};
-use seatmelon_text::{Part, parts, write_parts, write_words};
+use seatmelon_text::{Part, tell, write_words};
 
 // Writes the addresses and ports of a channel.
 fn write_channel<W: Sink>(
@@ -17,16 +17,14 @@ fn write_channel<W: Sink>(
 ) -> Result<(), Fault>
     ensures err { IfErr result (λ f. f ≡ write_failed) }
 {
-    write_parts(
+    tell!(
         writer,
-        &parts![
-            before,
-            "{\"client\":\"",
-            channel.client,
-            "\",\"server\":\"",
-            channel.server,
-            "\"}"
-        ],
+        before,
+        "{\"client\":\"",
+        channel.client,
+        "\",\"server\":\"",
+        channel.server,
+        "\"}"
     )
 }
 
@@ -48,26 +46,24 @@ pub fn write_params<W: Sink>(writer: &mut W, params: &Params) -> Result<(), Faul
     ensures err { IfErr result (λ f. f ≡ write_failed) }
 {
     let words = start_words(params);
-    write_parts(
+    tell!(
         writer,
-        &parts![
-            ",\"judged_by\":{\"client_id\":",
-            params.client_id(),
-            ",\"server_id\":",
-            params.server_id(),
-            ",\"code_length\":",
-            params.code_length(),
-            ",\"md4_start\":\"",
-            Part::Hex(&words),
-            "\",\"check_length\":",
-            params.check_length(),
-            ",\"n_sendmax\":",
-            params.n_sendmax(),
-            ",\"t_max\":",
-            params.t_max(),
-            ",\"slack\":",
-            params.slack()
-        ],
+        ",\"judged_by\":{\"client_id\":",
+        params.client_id(),
+        ",\"server_id\":",
+        params.server_id(),
+        ",\"code_length\":",
+        params.code_length(),
+        ",\"md4_start\":\"",
+        Part::Hex(&words),
+        "\",\"check_length\":",
+        params.check_length(),
+        ",\"n_sendmax\":",
+        params.n_sendmax(),
+        ",\"t_max\":",
+        params.t_max(),
+        ",\"slack\":",
+        params.slack()
     )?;
     write_channels(writer, params)
 }
@@ -83,18 +79,16 @@ fn write_offer<W: Sink>(
     let Some(offer) = offer else {
         return Ok(before);
     };
-    write_parts(
+    tell!(
         writer,
-        &parts![
-            before,
-            "{\"end\":\"",
-            offer.end,
-            "\",\"offered\":",
-            offer.offered,
-            ",\"recorded\":",
-            offer.recorded,
-            "}"
-        ],
+        before,
+        "{\"end\":\"",
+        offer.end,
+        "\",\"offered\":",
+        offer.offered,
+        ",\"recorded\":",
+        offer.recorded,
+        "}"
     )?;
     Ok(",")
 }
@@ -106,15 +100,13 @@ fn write_versions<W: Sink>(writer: &mut W, versions: Option<&Versions>) -> Resul
     let Some(versions) = versions else {
         return write_words(writer, "],\"versions\":null");
     };
-    write_parts(
+    tell!(
         writer,
-        &parts![
-            "],\"versions\":{\"client\":\"",
-            Part::Text(&versions.client),
-            "\",\"server\":\"",
-            Part::Text(&versions.server),
-            "\"}"
-        ],
+        "],\"versions\":{\"client\":\"",
+        Part::Text(&versions.client),
+        "\",\"server\":\"",
+        Part::Text(&versions.server),
+        "\"}"
     )
 }
 

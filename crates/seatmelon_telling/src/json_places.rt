@@ -5,14 +5,14 @@ ghost use Rattle.rasta_pcap.specs.Fault.{write_failed};
 use rasta_pcap::{CaptureTime, Fault, Sink};
 use seatmelon_reading::Sighting;
 use seatmelon_text::json::write_long;
-use seatmelon_text::{Part, Room, parts, put_parts, write_parts, write_words};
+use seatmelon_text::{Part, Room, parts, put_parts, tell, write_words};
 
 /// Writes a number, or null.
 pub fn write_number_if<W: Sink>(writer: &mut W, number: Option<u32>) -> Result<(), Fault>
     ensures err { IfErr result (λ f. f ≡ write_failed) }
 {
     match number {
-        Some(number) => write_parts(writer, &parts![number]),
+        Some(number) => tell!(writer, number),
         None => write_words(writer, "null"),
     }
 }
@@ -32,7 +32,7 @@ pub fn write_hex_if<W: Sink>(writer: &mut W, bytes: Option<&[u8]>) -> Result<(),
     ensures err { IfErr result (λ f. f ≡ write_failed) }
 {
     match bytes {
-        Some(bytes) => write_parts(writer, &parts!["\"", Part::Hex(bytes), "\""]),
+        Some(bytes) => tell!(writer, "\"", Part::Hex(bytes), "\""),
         None => write_words(writer, "null"),
     }
 }
@@ -42,7 +42,7 @@ pub fn write_time_if<W: Sink>(writer: &mut W, time: Option<CaptureTime>) -> Resu
     ensures err { IfErr result (λ f. f ≡ write_failed) }
 {
     match time {
-        Some(time) => write_parts(writer, &parts!["\"", time, " UTC\""]),
+        Some(time) => tell!(writer, "\"", time, " UTC\""),
         None => write_words(writer, "null"),
     }
 }

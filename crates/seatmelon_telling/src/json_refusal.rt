@@ -15,7 +15,7 @@ use seatmelon_account::{
 };
 use seatmelon_reading::{CodeCount, Sighting};
 use seatmelon_text::json::{write_long, write_sentence};
-use seatmelon_text::{Part, parts, write_parts, write_words};
+use seatmelon_text::{Part, tell, write_parts, write_words};
 
 // Writes what a fault means, and which block of a pcapng file it speaks of, if it does.
 fn write_meaning<W: Sink>(writer: &mut W, account: &Account<'_>, fault: Fault) -> Result<(), Fault>
@@ -28,10 +28,7 @@ fn write_meaning<W: Sink>(writer: &mut W, account: &Account<'_>, fault: Fault) -
     write_parts(writer, &meaning_of_block(block))?;
     write_words(writer, "\",\"block\":{\"offset\":")?;
     write_long(writer, block.at)?;
-    write_parts(
-        writer,
-        &parts![",\"reason\":\"", block.reason.words(), "\"}"],
-    )
+    tell!(writer, ",\"reason\":\"", block.reason.words(), "\"}")
 }
 
 // Writes a fault, and what to do about it.
@@ -44,15 +41,13 @@ fn write_fault<W: Sink>(
 {
     let (fault, header) = (refusal.fault, account.header);
     let hint = hint_of(account, refusal);
-    write_parts(
+    tell!(
         writer,
-        &parts![
-            ",\"fault\":{\"number\":",
-            fault.number,
-            ",\"name\":\"",
-            fault.name(),
-            "\",\"meaning\":"
-        ],
+        ",\"fault\":{\"number\":",
+        fault.number,
+        ",\"name\":\"",
+        fault.name(),
+        "\",\"meaning\":"
     )?;
     write_meaning(writer, account, fault)?;
     write_words(writer, ",\"cause\":")?;
@@ -85,10 +80,7 @@ fn write_record<W: Sink>(
 ) -> Result<(), Fault>
     ensures err { IfErr result (λ f. f ≡ write_failed) }
 {
-    write_parts(
-        writer,
-        &parts![",\"record\":{\"record\":", record, ",\"time\":"],
-    )?;
+    tell!(writer, ",\"record\":{\"record\":", record, ",\"time\":")?;
     write_time_if(writer, time)?;
     write_words(writer, "},\"packet\":")?;
     write_packet_if(writer, packet)?;
@@ -144,15 +136,13 @@ fn write_line_if<W: Sink>(writer: &mut W, subject: &Subject<'_>) -> Result<(), F
 fn write_entry<W: Sink>(writer: &mut W, entry: &RefusedEntry<'_>) -> Result<(), Fault>
     ensures err { IfErr result (λ f. f ≡ write_failed) }
 {
-    write_parts(
+    tell!(
         writer,
-        &parts![
-            ",\"entry\":{\"number\":",
-            entry.number,
-            ",\"end\":\"",
-            entry.side,
-            "\",\"line\":"
-        ],
+        ",\"entry\":{\"number\":",
+        entry.number,
+        ",\"end\":\"",
+        entry.side,
+        "\",\"line\":"
     )?;
     write_long(writer, entry.line)?;
     write_words(writer, "}")
@@ -199,15 +189,13 @@ fn write_deadline_if<W: Sink>(writer: &mut W, deadline: Option<&Deadline>) -> Re
     write_long(writer, deadline.clock)?;
     write_words(writer, ",\"confirmed_time\":")?;
     write_long_if(writer, deadline.confirmed_time)?;
-    write_parts(
+    tell!(
         writer,
-        &parts![
-            ",\"t_max\":",
-            deadline.t_max,
-            ",\"slack\":",
-            deadline.slack,
-            ",\"deadline\":"
-        ],
+        ",\"t_max\":",
+        deadline.t_max,
+        ",\"slack\":",
+        deadline.slack,
+        ",\"deadline\":"
     )?;
     write_long_if(writer, deadline.deadline)?;
     write_words(writer, "}")

@@ -11,42 +11,35 @@ use seatmelon_account::{Account, Hypothesis};
 use seatmelon_reading::Sighting;
 use seatmelon_suppose::{Filled, Filling, Supposed, Tried};
 use seatmelon_text::json::write_sentence;
-use seatmelon_text::{parts, write_parts, write_words};
+use seatmelon_text::{tell, write_words};
 
 // Writes what a supposed PDU says, and just before which packet it crossed.
 fn write_pdu<W: Sink>(writer: &mut W, packets: &[Sighting], pdu: &Supposed) -> Result<(), Fault>
     ensures err { IfErr result (λ f. f ≡ write_failed) }
 {
-    write_parts(
-        writer,
-        &parts!["{\"from\":\"", pdu.sender, "\",\"before\":"],
-    )?;
+    tell!(writer, "{\"from\":\"", pdu.sender, "\",\"before\":")?;
     write_place(writer, packets, place_at(pdu.before))?;
     let number = pdu.fields.kind.number();
-    write_parts(
+    tell!(
         writer,
-        &parts![
-            ",\"redundancy_number\":",
-            pdu.fields.number,
-            ",\"type\":",
-            number,
-            ",\"type_name\":\"",
-            pdu.fields.kind.name(),
-            "\",\"sn\":",
-            pdu.fields.sn
-        ],
+        ",\"redundancy_number\":",
+        pdu.fields.number,
+        ",\"type\":",
+        number,
+        ",\"type_name\":\"",
+        pdu.fields.kind.name(),
+        "\",\"sn\":",
+        pdu.fields.sn
     )?;
-    write_parts(
+    tell!(
         writer,
-        &parts![
-            ",\"cs\":",
-            pdu.fields.cs,
-            ",\"ts\":",
-            pdu.fields.ts,
-            ",\"cts\":",
-            pdu.fields.cts,
-            "}"
-        ],
+        ",\"cs\":",
+        pdu.fields.cs,
+        ",\"ts\":",
+        pdu.fields.ts,
+        ",\"cts\":",
+        pdu.fields.cts,
+        "}"
     )
 }
 
@@ -90,15 +83,13 @@ fn write_way<W: Sink>(writer: &mut W, packets: &[Sighting], way: &Tried) -> Resu
     ensures err { IfErr result (λ f. f ≡ write_failed) }
 {
     let number = way.kind.number();
-    write_parts(
+    tell!(
         writer,
-        &parts![
-            "{\"type\":",
-            number,
-            ",\"type_name\":\"",
-            way.kind.name(),
-            "\",\"explained_before\":"
-        ],
+        "{\"type\":",
+        number,
+        ",\"type_name\":\"",
+        way.kind.name(),
+        "\",\"explained_before\":"
     )?;
     write_place(writer, packets, place_at(way.reach))?;
     write_words(writer, "}")
@@ -108,15 +99,13 @@ fn write_way<W: Sink>(writer: &mut W, packets: &[Sighting], way: &Tried) -> Resu
 fn write_gap<W: Sink>(writer: &mut W, packets: &[Sighting], filled: &Filled) -> Result<(), Fault>
     ensures err { IfErr result (λ f. f ≡ write_failed) }
 {
-    write_parts(
+    tell!(
         writer,
-        &parts![
-            "{\"from\":\"",
-            filled.gap.sender,
-            "\",\"missing\":",
-            filled.gap.missing,
-            ",\"before\":"
-        ],
+        "{\"from\":\"",
+        filled.gap.sender,
+        "\",\"missing\":",
+        filled.gap.missing,
+        ",\"before\":"
     )?;
     write_place(writer, packets, place_at(filled.gap.place))?;
     write_words(writer, ",\"ways\":[")?;

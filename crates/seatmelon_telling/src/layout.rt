@@ -5,7 +5,7 @@ ghost use Rattle.rasta_pcap.specs.Fault.{write_failed};
 use rasta_pcap::{Fault, Sink};
 use rasta_pdu::Kind;
 use seatmelon_account::{CutMessage, Layout};
-use seatmelon_text::{Part, parts, write_parts, write_words};
+use seatmelon_text::{Part, tell, write_words};
 
 /// What a type has as its payload.
 pub fn layout_of(kind: Option<Kind>) -> &'static str {
@@ -25,25 +25,21 @@ pub fn layout_of(kind: Option<Kind>) -> &'static str {
 fn write_cut_message<W: Sink>(writer: &mut W, cut: CutMessage) -> Result<(), Fault>
     ensures err { IfErr result (λ f. f ≡ write_failed) }
 {
-    write_parts(
+    tell!(
         writer,
-        &parts![
-            "  length of the message at byte ",
-            cut.at as u64,
-            " of the payload: "
-        ],
+        "  length of the message at byte ",
+        cut.at as u64,
+        " of the payload: "
     )?;
     let Some(len) = cut.len else {
         return write_words(writer, "cut after one byte\n");
     };
-    write_parts(
+    tell!(
         writer,
-        &parts![
-            len,
-            "\n  bytes of the payload after it: ",
-            cut.left as u64,
-            "\n"
-        ],
+        len,
+        "\n  bytes of the payload after it: ",
+        cut.left as u64,
+        "\n"
     )
 }
 
@@ -51,15 +47,13 @@ fn write_cut_message<W: Sink>(writer: &mut W, cut: CutMessage) -> Result<(), Fau
 fn write_version<W: Sink>(writer: &mut W, version: &[u8]) -> Result<(), Fault>
     ensures err { IfErr result (λ f. f ≡ write_failed) }
 {
-    write_parts(
+    tell!(
         writer,
-        &parts![
-            "  version found: hex ",
-            Part::Hex(version),
-            ", text ",
-            Part::Text(version),
-            "\n"
-        ],
+        "  version found: hex ",
+        Part::Hex(version),
+        ", text ",
+        Part::Text(version),
+        "\n"
     )
 }
 
@@ -67,15 +61,13 @@ fn write_version<W: Sink>(writer: &mut W, version: &[u8]) -> Result<(), Fault>
 pub fn write_payload_due<W: Sink>(writer: &mut W, layout: &Layout<'_>) -> Result<(), Fault>
     ensures err { IfErr result (λ f. f ≡ write_failed) }
 {
-    write_parts(
+    tell!(
         writer,
-        &parts![
-            "  payload due: ",
-            layout_of(layout.kind),
-            "\n  bytes of the payload: ",
-            layout.len as u64,
-            "\n"
-        ],
+        "  payload due: ",
+        layout_of(layout.kind),
+        "\n  bytes of the payload: ",
+        layout.len as u64,
+        "\n"
     )?;
     match (layout.version, layout.cut) {
         (Some(version), _) => write_version(writer, version),

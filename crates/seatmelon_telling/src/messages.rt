@@ -6,7 +6,7 @@ use crate::page::place_of;
 use rasta_pcap::{CaptureTime, Fault, Side, Sink};
 use seatmelon_account::{Account, Direction, Message, Selection};
 use seatmelon_reading::Sighting;
-use seatmelon_text::{Part, Room, parts, put_parts, width, write_parts, write_words};
+use seatmelon_text::{Part, Room, parts, put_parts, tell, width, write_words};
 
 // How many columns a line has at most.
 const MOST_COLUMNS: usize = 100;
@@ -275,13 +275,11 @@ fn write_heading<W: Sink>(writer: &mut W, scene: &Scene<'_>) -> Result<(), Fault
     };
     write_words(writer, what)?;
     match scene.first {
-        Some(first) => write_parts(
+        Some(first) => tell!(
             writer,
-            &parts![
-                " (times are UTC; those without a date are of ",
-                Part::Date(first),
-                "):\n"
-            ],
+            " (times are UTC; those without a date are of ",
+            Part::Date(first),
+            "):\n"
         ),
         None => write_words(writer, ":\n"),
     }

@@ -5,7 +5,7 @@ ghost use Rattle.rasta_pcap.specs.Fault.{write_failed};
 use rasta_pcap::{Fault, Side, Sink};
 use seatmelon_account::Account;
 use seatmelon_reading::{Noticed, Silence};
-use seatmelon_text::{Part, parts, write_parts, write_words};
+use seatmelon_text::{Part, tell, write_words};
 
 // Writes how many records were passed over for one reason, if there are any.
 fn write_reason<W: Sink>(writer: &mut W, reason: &'static str, count: u64) -> Result<(), Fault>
@@ -14,7 +14,7 @@ fn write_reason<W: Sink>(writer: &mut W, reason: &'static str, count: u64) -> Re
     if count == 0 {
         return Ok(());
     }
-    write_parts(writer, &parts!["    ", reason, ": ", count, "\n"])
+    tell!(writer, "    ", reason, ": ", count, "\n")
 }
 
 /// Writes how many records were passed over, and why.
@@ -22,9 +22,11 @@ pub fn write_passed_over<W: Sink>(writer: &mut W, account: &Account<'_>) -> Resu
     ensures err { IfErr result (λ f. f ≡ write_failed) }
 {
     let passed = account.passed;
-    write_parts(
+    tell!(
         writer,
-        &parts!["  records passed over: ", account.passed_over(), "\n"],
+        "  records passed over: ",
+        account.passed_over(),
+        "\n"
     )?;
     write_reason(writer, "left out", passed.left_out)?;
     write_reason(writer, "not IPv4 or UDP", passed.not_udp)?;
@@ -48,19 +50,17 @@ fn write_silence<W: Sink>(writer: &mut W, end: Side, silence: Option<&Silence>) 
     let Some(silence) = silence else {
         return Ok(());
     };
-    write_parts(
+    tell!(
         writer,
-        &parts![
-            "  longest silence of the ",
-            end,
-            ": ",
-            Part::Milliseconds(silence.nanoseconds()),
-            " ms, between records ",
-            silence.before.record,
-            " and ",
-            silence.after.record,
-            "\n"
-        ],
+        "  longest silence of the ",
+        end,
+        ": ",
+        Part::Milliseconds(silence.nanoseconds()),
+        " ms, between records ",
+        silence.before.record,
+        " and ",
+        silence.after.record,
+        "\n"
     )
 }
 
@@ -69,17 +69,15 @@ fn write_noticed<W: Sink>(writer: &mut W, what: &'static str, noticed: Noticed) 
     ensures err { IfErr result (λ f. f ≡ write_failed) }
 {
     match noticed.first {
-        Some(first) => write_parts(
+        Some(first) => tell!(
             writer,
-            &parts![
-                "  ",
-                what,
-                ": ",
-                noticed.count,
-                ", the first is record ",
-                first,
-                "\n"
-            ],
+            "  ",
+            what,
+            ": ",
+            noticed.count,
+            ", the first is record ",
+            first,
+            "\n"
         ),
         None => Ok(()),
     }
@@ -113,13 +111,11 @@ fn write_untimed<W: Sink>(writer: &mut W, count: u64) -> Result<(), Fault>
     if count == 0 {
         return Ok(());
     }
-    write_parts(
+    tell!(
         writer,
-        &parts![
-            "  packets of the connection without a time: ",
-            count,
-            ", so that no silence is told\n"
-        ],
+        "  packets of the connection without a time: ",
+        count,
+        ", so that no silence is told\n"
     )
 }
 

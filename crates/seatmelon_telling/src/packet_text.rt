@@ -6,13 +6,13 @@ use rasta_pcap::{Fault, Sink};
 use rasta_pdu::layout::PAYLOAD_AT;
 use rasta_pdu::{Fields, Kind, Pdu};
 use seatmelon_account::{Codes, Difference, FirstCopy};
-use seatmelon_text::{Part, parts, write_parts, write_words};
+use seatmelon_text::{Part, tell, write_words};
 
 // Writes a field as a line.
 fn write_field<W: Sink>(writer: &mut W, name: &str, n: u32) -> Result<(), Fault>
     ensures err { IfErr result (λ f. f ≡ write_failed) }
 {
-    write_parts(writer, &parts!["  ", name, ": ", n, "\n"])
+    tell!(writer, "  ", name, ": ", n, "\n")
 }
 
 /// The name of the type with this number.
@@ -27,10 +27,7 @@ pub fn type_name(number: u16) -> &'static str {
 fn write_type<W: Sink>(writer: &mut W, number: u16) -> Result<(), Fault>
     ensures err { IfErr result (λ f. f ≡ write_failed) }
 {
-    write_parts(
-        writer,
-        &parts!["  type: ", number, ", ", type_name(number), "\n"],
-    )
+    tell!(writer, "  type: ", number, ", ", type_name(number), "\n")
 }
 
 /// The payload of a datagram and the codes after it.
@@ -83,10 +80,7 @@ pub fn write_datagram<W: Sink>(writer: &mut W, datagram: &[u8]) -> Result<(), Fa
     if rest.is_empty() {
         return Ok(());
     }
-    write_parts(
-        writer,
-        &parts!["  payload and codes: ", Part::Hex(rest), "\n"],
-    )
+    tell!(writer, "  payload and codes: ", Part::Hex(rest), "\n")
 }
 
 // Writes a message as a line.
@@ -96,15 +90,13 @@ fn write_message<W: Sink>(writer: &mut W, message: &[u8]) -> Result<(), Fault>
     if message.is_empty() {
         return write_words(writer, "  message: empty\n");
     }
-    write_parts(
+    tell!(
         writer,
-        &parts![
-            "  message: hex ",
-            Part::Hex(message),
-            ", text ",
-            Part::Text(message),
-            "\n"
-        ],
+        "  message: hex ",
+        Part::Hex(message),
+        ", text ",
+        Part::Text(message),
+        "\n"
     )
 }
 
@@ -135,15 +127,13 @@ pub fn write_pdu<W: Sink>(writer: &mut W, pdu: &Pdu<'_>) -> Result<(), Fault>
 pub fn write_codes<W: Sink>(writer: &mut W, codes: &Codes<'_>) -> Result<(), Fault>
     ensures err { IfErr result (λ f. f ≡ write_failed) }
 {
-    write_parts(
+    tell!(
         writer,
-        &parts![
-            "  safety code found: ",
-            Part::Hex(codes.found),
-            "\n  safety code due: ",
-            Part::Hex(codes.due()),
-            "\n"
-        ],
+        "  safety code found: ",
+        Part::Hex(codes.found),
+        "\n  safety code due: ",
+        Part::Hex(codes.due()),
+        "\n"
     )
 }
 
@@ -151,17 +141,15 @@ pub fn write_codes<W: Sink>(writer: &mut W, codes: &Codes<'_>) -> Result<(), Fau
 fn write_difference<W: Sink>(writer: &mut W, difference: &Difference) -> Result<(), Fault>
     ensures err { IfErr result (λ f. f ≡ write_failed) }
 {
-    write_parts(
+    tell!(
         writer,
-        &parts![
-            "  byte ",
-            difference.at as u64,
-            " of the datagram: ",
-            Part::Byte(difference.byte),
-            ", in the first copy ",
-            Part::Byte(difference.first),
-            "\n"
-        ],
+        "  byte ",
+        difference.at as u64,
+        " of the datagram: ",
+        Part::Byte(difference.byte),
+        ", in the first copy ",
+        Part::Byte(difference.first),
+        "\n"
     )
 }
 

@@ -10,7 +10,7 @@ use rasta_udp::Channel;
 use seatmelon_account::{Account, File, Offer, Offers};
 use seatmelon_pcapng::Format;
 use seatmelon_reading::{ChannelCount, Sighting, Window};
-use seatmelon_text::{Part, parts, write_parts, write_words};
+use seatmelon_text::{Part, parts, tell, write_parts, write_words};
 
 /// The program, and what it was proved with: the sum of the logic, which `rt version` prints too.
 pub const PROGRAM: &str = "seatmelon 0.1.0, proved with Rattle, logic dac8208d650f15bf";
@@ -19,17 +19,15 @@ pub const PROGRAM: &str = "seatmelon 0.1.0, proved with Rattle, logic dac8208d65
 fn write_file<W: Sink>(writer: &mut W, what: &str, file: &File<'_>) -> Result<(), Fault>
     ensures err { IfErr result (λ f. f ≡ write_failed) }
 {
-    write_parts(
+    tell!(
         writer,
-        &parts![
-            "  ",
-            what,
-            ": ",
-            file.name,
-            "\n    SHA-256: ",
-            Part::Hex(&file.sum),
-            "\n"
-        ],
+        "  ",
+        what,
+        ": ",
+        file.name,
+        "\n    SHA-256: ",
+        Part::Hex(&file.sum),
+        "\n"
     )
 }
 
@@ -76,7 +74,7 @@ pub fn write_without<W: Sink>(writer: &mut W, without: &[u32]) -> Result<(), Fau
     let mut before = " without record ";
     for number in without {
         let number = Part::Number(u64::from(*number));
-        write_parts(writer, &parts![before, number])?;
+        tell!(writer, before, number)?;
         before = ", record ";
     }
     Ok(())
@@ -102,22 +100,17 @@ fn write_channel<W: Sink>(
 ) -> Result<(), Fault>
     ensures err { IfErr result (λ f. f ≡ write_failed) }
 {
-    write_parts(
-        writer,
-        &parts![", ", channel.client, " - ", channel.server, ": "],
-    )?;
+    tell!(writer, ", ", channel.client, " - ", channel.server, ": ")?;
     if count.client == 0 && count.server == 0 {
         return write_words(writer, "no packet\n");
     }
-    write_parts(
+    tell!(
         writer,
-        &parts![
-            "from the client ",
-            count.client,
-            ", from the server ",
-            count.server,
-            "\n"
-        ],
+        "from the client ",
+        count.client,
+        ", from the server ",
+        count.server,
+        "\n"
     )
 }
 
@@ -167,15 +160,13 @@ fn write_outside<W: Sink>(writer: &mut W, account: &Account<'_>) -> Result<(), F
     if account.window.is_none() {
         return Ok(());
     }
-    write_parts(
+    tell!(
         writer,
-        &parts![
-            "  packets of the recorded channels before the window: ",
-            account.before,
-            ", behind it: ",
-            account.behind,
-            "\n"
-        ],
+        "  packets of the recorded channels before the window: ",
+        account.before,
+        ", behind it: ",
+        account.behind,
+        "\n"
     )
 }
 
@@ -185,10 +176,7 @@ fn write_channels<W: Sink>(writer: &mut W, account: &Account<'_>) -> Result<(), 
 {
     let recorded = account.params.channel().iter();
     for (place, (channel, count)) in recorded.zip(account.channels).enumerate() {
-        write_parts(
-            writer,
-            &parts!["    on channel ", (place as u64).saturating_add(1)],
-        )?;
+        tell!(writer, "    on channel ", (place as u64).saturating_add(1))?;
         write_channel(writer, channel, *count)?;
     }
     Ok(())
@@ -198,14 +186,11 @@ fn write_channels<W: Sink>(writer: &mut W, account: &Account<'_>) -> Result<(), 
 fn write_counts<W: Sink>(writer: &mut W, account: &Account<'_>) -> Result<(), Fault>
     ensures err { IfErr result (λ f. f ≡ write_failed) }
 {
-    write_parts(writer, &parts!["  records read: ", account.records, "\n"])?;
+    tell!(writer, "  records read: ", account.records, "\n")?;
     write_left_out(writer, account.without)?;
     write_window(writer, account)?;
     let packets = account.packets.len() as u64;
-    write_parts(
-        writer,
-        &parts!["  packets of the connection: ", packets, "\n"],
-    )?;
+    tell!(writer, "  packets of the connection: ", packets, "\n")?;
     write_channels(writer, account)?;
     write_outside(writer, account)?;
     write_passed_over(writer, account)
@@ -226,35 +211,31 @@ pub fn start_words(params: &Params) -> [u8; 16] {
 fn write_params<W: Sink>(writer: &mut W, params: &Params) -> Result<(), Fault>
     ensures err { IfErr result (λ f. f ≡ write_failed) }
 {
-    write_parts(
+    tell!(
         writer,
-        &parts![
-            "  ids: client ",
-            params.client_id(),
-            ", server ",
-            params.server_id(),
-            "\n  lengths: safety code ",
-            params.code_length(),
-            ", check code ",
-            params.check_length(),
-            "\n"
-        ],
+        "  ids: client ",
+        params.client_id(),
+        ", server ",
+        params.server_id(),
+        "\n  lengths: safety code ",
+        params.code_length(),
+        ", check code ",
+        params.check_length(),
+        "\n"
     )?;
     if params.code_length() > 0 {
         let words = start_words(params);
-        write_parts(writer, &parts!["  start words: ", Part::Hex(&words), "\n"])?;
+        tell!(writer, "  start words: ", Part::Hex(&words), "\n")?;
     }
-    write_parts(
+    tell!(
         writer,
-        &parts![
-            "  limits: N_sendmax ",
-            params.n_sendmax(),
-            ", T_max ",
-            params.t_max(),
-            ", slack ",
-            params.slack(),
-            "\n"
-        ],
+        "  limits: N_sendmax ",
+        params.n_sendmax(),
+        ", T_max ",
+        params.t_max(),
+        ", slack ",
+        params.slack(),
+        "\n"
     )
 }
 
@@ -263,9 +244,11 @@ fn write_quiet<W: Sink>(writer: &mut W, params: &Params) -> Result<(), Fault>
     ensures err { IfErr result (λ f. f ≡ write_failed) }
 {
     match params.quiet() {
-        Some(_) => write_parts(
+        Some(_) => tell!(
             writer,
-            &parts!["  quiet point: before record ", params.first_record(), "\n"],
+            "  quiet point: before record ",
+            params.first_record(),
+            "\n"
         ),
         None => write_words(writer, "  quiet point: none\n"),
     }
@@ -278,17 +261,15 @@ fn write_offer<W: Sink>(writer: &mut W, offer: Option<Offer>) -> Result<(), Faul
     let Some(offer) = offer else {
         return Ok(());
     };
-    write_parts(
+    tell!(
         writer,
-        &parts![
-            "  the ",
-            offer.end,
-            "'s opening offers N_sendmax ",
-            offer.offered,
-            ", and the parameters have ",
-            offer.recorded,
-            "\n"
-        ],
+        "  the ",
+        offer.end,
+        "'s opening offers N_sendmax ",
+        offer.offered,
+        ", and the parameters have ",
+        offer.recorded,
+        "\n"
     )
 }
 
@@ -301,15 +282,13 @@ fn write_offers<W: Sink>(writer: &mut W, offers: &Offers) -> Result<(), Fault>
     let Some(versions) = &offers.versions else {
         return Ok(());
     };
-    write_parts(
+    tell!(
         writer,
-        &parts![
-            "  the client's opening offers version ",
-            Part::Text(&versions.client),
-            ", and the server's ",
-            Part::Text(&versions.server),
-            "\n"
-        ],
+        "  the client's opening offers version ",
+        Part::Text(&versions.client),
+        ", and the server's ",
+        Part::Text(&versions.server),
+        "\n"
     )
 }
 
@@ -322,7 +301,7 @@ pub fn write_judged<W: Sink>(writer: &mut W, account: &Account<'_>) -> Result<()
     write_format(writer, account.format)?;
     write_file(writer, "parameters", &account.parameters)?;
     write_certificate(writer, account)?;
-    write_parts(writer, &parts!["  program: ", PROGRAM, "\n"])?;
+    tell!(writer, "  program: ", PROGRAM, "\n")?;
     write_counts(writer, account)?;
     write_params(writer, account.params)?;
     write_quiet(writer, account.params)?;

@@ -21,7 +21,7 @@ use seatmelon_account::{
 use seatmelon_packets::Fits;
 use seatmelon_pcapng::Format;
 use seatmelon_reading::{CodeCount, Sighting};
-use seatmelon_text::{parts, write_parts, write_words};
+use seatmelon_text::{tell, write_parts, write_words};
 
 // Writes what a fault means.
 fn write_meaning<W: Sink>(writer: &mut W, account: &Account<'_>, fault: Fault) -> Result<(), Fault>
@@ -37,10 +37,7 @@ fn write_meaning<W: Sink>(writer: &mut W, account: &Account<'_>, fault: Fault) -
 fn write_fault<W: Sink>(writer: &mut W, account: &Account<'_>, fault: Fault) -> Result<(), Fault>
     ensures err { IfErr result (λ f. f ≡ write_failed) }
 {
-    write_parts(
-        writer,
-        &parts!["refused by ", fault.number, " ", fault.name()],
-    )?;
+    tell!(writer, "refused by ", fault.number, " ", fault.name())?;
     write_without(writer, account.without)?;
     write_words(writer, ":\n  ")?;
     write_meaning(writer, account, fault)?;
@@ -53,15 +50,13 @@ fn write_fault<W: Sink>(writer: &mut W, account: &Account<'_>, fault: Fault) -> 
 fn write_hint<W: Sink>(writer: &mut W, hint: Hint) -> Result<(), Fault>
     ensures err { IfErr result (λ f. f ≡ write_failed) }
 {
-    write_parts(
+    tell!(
         writer,
-        &parts![
-            "\nmay be the cause:\n  ",
-            hint.cause,
-            "\nlook next at:\n  ",
-            hint.next_step,
-            "\n"
-        ],
+        "\nmay be the cause:\n  ",
+        hint.cause,
+        "\nlook next at:\n  ",
+        hint.next_step,
+        "\n"
     )
 }
 
@@ -86,7 +81,7 @@ fn write_first_copy<W: Sink>(
 fn write_due<W: Sink>(writer: &mut W, what: &str, due: u64) -> Result<(), Fault>
     ensures err { IfErr result (λ f. f ≡ write_failed) }
 {
-    write_parts(writer, &parts!["  ", what, " due: ", due, "\n"])
+    tell!(writer, "  ", what, " due: ", due, "\n")
 }
 
 // Writes the ids that are due.
@@ -101,14 +96,12 @@ fn write_ids<W: Sink>(writer: &mut W, receiver: u32, sender: u32) -> Result<(), 
 fn write_type_due<W: Sink>(writer: &mut W, found: u16) -> Result<(), Fault>
     ensures err { IfErr result (λ f. f ≡ write_failed) }
 {
-    write_parts(
+    tell!(
         writer,
-        &parts![
-            "  type due: 6200, 6201, 6212, 6213, 6216, 6220, 6240 or 6241",
-            "\n  type found: ",
-            found,
-            "\n"
-        ],
+        "  type due: 6200, 6201, 6212, 6213, 6216, 6220, 6240 or 6241",
+        "\n  type found: ",
+        found,
+        "\n"
     )
 }
 
@@ -116,10 +109,7 @@ fn write_type_due<W: Sink>(writer: &mut W, found: u16) -> Result<(), Fault>
 fn write_least<W: Sink>(writer: &mut W, least: u64) -> Result<(), Fault>
     ensures err { IfErr result (λ f. f ≡ write_failed) }
 {
-    write_parts(
-        writer,
-        &parts!["  bytes of the datagram due: ", least, " or more\n"],
-    )
+    tell!(writer, "  bytes of the datagram due: ", least, " or more\n")
 }
 
 // Writes what is wrong with a packet.
@@ -149,7 +139,7 @@ fn write_trouble<W: Sink>(
         Trouble::SafetyLength(due) => write_due(writer, "length field of the safety layer", *due),
         Trouble::Type(found) => write_type_due(writer, *found),
         Trouble::Payload(layout) => write_payload_due(writer, layout),
-        Trouble::Other => write_parts(writer, &parts!["  ", words_of(fault.number).meaning, "\n"]),
+        Trouble::Other => tell!(writer, "  ", words_of(fault.number).meaning, "\n"),
     }
 }
 
@@ -160,13 +150,11 @@ fn write_lengths<W: Sink>(writer: &mut W, lengths: Option<Fits>) -> Result<(), F
     let Some(fits) = lengths else {
         return Ok(());
     };
-    write_parts(
+    tell!(
         writer,
-        &parts![
-            "  lengths that it fits: check code ",
-            fits.check_length,
-            ", safety code"
-        ],
+        "  lengths that it fits: check code ",
+        fits.check_length,
+        ", safety code"
     )?;
     write_code_lengths(writer, &fits, " ", " or ")?;
     write_words(writer, "\n")
@@ -176,13 +164,11 @@ fn write_lengths<W: Sink>(writer: &mut W, lengths: Option<Fits>) -> Result<(), F
 fn write_misfits<W: Sink>(writer: &mut W, codes: CodeCount) -> Result<(), Fault>
     ensures err { IfErr result (λ f. f ≡ write_failed) }
 {
-    write_parts(
+    tell!(
         writer,
-        &parts![
-            "  none of the ",
-            codes.judged,
-            " codes fits the recorded start words\n"
-        ],
+        "  none of the ",
+        codes.judged,
+        " codes fits the recorded start words\n"
     )
 }
 
@@ -196,15 +182,13 @@ fn write_packet<W: Sink>(
 ) -> Result<(), Fault>
     ensures err { IfErr result (λ f. f ≡ write_failed) }
 {
-    write_parts(
+    tell!(
         writer,
-        &parts![
-            ", channel ",
-            packet.channel,
-            ", from the ",
-            packet.sender,
-            "\n"
-        ],
+        ", channel ",
+        packet.channel,
+        ", from the ",
+        packet.sender,
+        "\n"
     )?;
     write_datagram(writer, packet.datagram)?;
     write_trouble(
@@ -233,7 +217,7 @@ fn write_crossed<W: Sink>(
         write_words(writer, "the packet that it names is in ")?;
         return write_place(writer, packets, crossed.place);
     };
-    write_parts(writer, &parts!["the ", crossed.side, "'s PDU in "])?;
+    tell!(writer, "the ", crossed.side, "'s PDU in ")?;
     write_place(writer, packets, crossed.place)?;
     write_pdu(writer, pdu)
 }
@@ -267,17 +251,15 @@ fn write_entry<W: Sink>(
 ) -> Result<(), Fault>
     ensures err { IfErr result (λ f. f ≡ write_failed) }
 {
-    write_parts(
+    tell!(
         writer,
-        &parts![
-            "\nentry ",
-            entry.number,
-            " of the ",
-            entry.side,
-            "'s script, line ",
-            entry.line,
-            " of the certificate\n"
-        ],
+        "\nentry ",
+        entry.number,
+        " of the ",
+        entry.side,
+        "'s script, line ",
+        entry.line,
+        " of the certificate\n"
     )?;
     write_named(writer, packets, &entry.packet)
 }
@@ -316,7 +298,7 @@ fn write_time<W: Sink>(
     ensures err { IfErr result (λ f. f ≡ write_failed) }
 {
     match time {
-        Some(time) => write_parts(writer, &parts![", ", time, " UTC"]),
+        Some(time) => tell!(writer, ", ", time, " UTC"),
         None if format.is_pcapng() && is_read(fault) => write_words(writer, ", no time"),
         None => Ok(()),
     }
@@ -339,13 +321,11 @@ fn write_subject<W: Sink>(
             packet,
             codes,
         } => {
-            write_parts(writer, &parts!["\nrecord ", *record])?;
+            tell!(writer, "\nrecord ", *record)?;
             write_time(writer, account.format, refusal.fault, *time)?;
             write_record(writer, packets, refusal, packet.as_ref(), *codes)
         }
-        Subject::Line(line) => {
-            write_parts(writer, &parts!["\nline ", *line, " of the certificate\n"])
-        }
+        Subject::Line(line) => { tell!(writer, "\nline ", *line, " of the certificate\n") }
         Subject::Unexplained { packet, rule, .. } => {
             write_words(writer, "\n")?;
             if let Some(packet) = packet {

@@ -9,7 +9,7 @@ use rasta_pcap::{Fault, Side, Sink};
 use rasta_pdu::Pdu;
 use seatmelon_account::{BrokenRule, Crossed, Deadline};
 use seatmelon_reading::Sighting;
-use seatmelon_text::{Part, parts, write_parts, write_words};
+use seatmelon_text::{Part, parts, tell, write_parts, write_words};
 
 const NONE: Part<'static> = Part::Words("");
 
@@ -109,7 +109,7 @@ fn write_named<W: Sink>(
     } else {
         "  that PDU: SN "
     };
-    write_parts(writer, &parts![name, pdu.sn(), ", "])?;
+    tell!(writer, name, pdu.sn(), ", ")?;
     write_place(writer, packets, *place)
 }
 
@@ -122,7 +122,7 @@ fn write_number<W: Sink>(
 ) -> Result<(), Fault>
     ensures err { IfErr result (λ f. f ≡ write_failed) }
 {
-    write_parts(writer, &parts!["  ", name, what, number, "\n"])
+    tell!(writer, "  ", name, what, number, "\n")
 }
 
 // Writes the numbers that are due and found.
@@ -143,7 +143,7 @@ fn write_moment<W: Sink>(writer: &mut W, name: &str, moment: Option<u64>) -> Res
     ensures err { IfErr result (λ f. f ≡ write_failed) }
 {
     match moment {
-        Some(moment) => write_parts(writer, &parts!["  ", name, ": ", moment, "\n"]),
+        Some(moment) => tell!(writer, "  ", name, ": ", moment, "\n"),
         None => Ok(()),
     }
 }
@@ -154,15 +154,13 @@ fn write_deadline<W: Sink>(writer: &mut W, deadline: &Deadline) -> Result<(), Fa
 {
     write_moment(writer, "clock", Some(deadline.clock))?;
     write_moment(writer, "confirmed time", deadline.confirmed_time)?;
-    write_parts(
+    tell!(
         writer,
-        &parts![
-            "  T_max: ",
-            deadline.t_max,
-            ", slack: ",
-            deadline.slack,
-            "\n"
-        ],
+        "  T_max: ",
+        deadline.t_max,
+        ", slack: ",
+        deadline.slack,
+        "\n"
     )?;
     write_moment(writer, "deadline", deadline.deadline)
 }

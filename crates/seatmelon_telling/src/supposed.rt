@@ -10,7 +10,7 @@ use rasta_pdu::Kind;
 use seatmelon_account::{Account, Direction, Extent, Hypothesis};
 use seatmelon_reading::Sighting;
 use seatmelon_suppose::{Filled, Filling, Gap, Supposed, Tried};
-use seatmelon_text::{parts, write_parts, write_words};
+use seatmelon_text::{tell, write_parts, write_words};
 
 const SAYS: &str = "
 What the supposition says:
@@ -55,17 +55,15 @@ fn plural(count: usize) -> &'static str {
 fn write_front<W: Sink>(writer: &mut W, packets: &[Sighting], pdu: &Supposed) -> Result<(), Fault>
     ensures err { IfErr result (λ f. f ≡ write_failed) }
 {
-    write_parts(
+    tell!(
         writer,
-        &parts![
-            "  from the ",
-            pdu.sender,
-            ", redundancy number ",
-            pdu.fields.number,
-            ", SN ",
-            pdu.fields.sn,
-            ", just before "
-        ],
+        "  from the ",
+        pdu.sender,
+        ", redundancy number ",
+        pdu.fields.number,
+        ", SN ",
+        pdu.fields.sn,
+        ", just before "
     )?;
     write_parts(writer, &place_of(packets, place_at(pdu.before)))
 }
@@ -105,7 +103,7 @@ fn write_owners<W: Sink>(writer: &mut W, fillings: &[Filling], pdu: &Supposed) -
     let mut before = "; filling ";
     for (number, filling) in fillings.iter().enumerate() {
         if fillings.len() > 1 && filling.pdus.len() > 1 && says_same(filling, pdu) {
-            write_parts(writer, &parts![before, number as u64 + 1])?;
+            tell!(writer, before, number as u64 + 1)?;
             before = ", ";
         }
     }
@@ -117,20 +115,18 @@ fn write_values<W: Sink>(writer: &mut W, fillings: &[Filling], pdu: &Supposed) -
     ensures err { IfErr result (λ f. f ≡ write_failed) }
 {
     let number = pdu.fields.kind.number();
-    write_parts(
+    tell!(
         writer,
-        &parts![
-            "    ",
-            number,
-            ", ",
-            pdu.fields.kind.name(),
-            messages_of(pdu.fields.kind),
-            ": CS ",
-            pdu.fields.cs,
-            ", TS "
-        ],
+        "    ",
+        number,
+        ", ",
+        pdu.fields.kind.name(),
+        messages_of(pdu.fields.kind),
+        ": CS ",
+        pdu.fields.cs,
+        ", TS "
     )?;
-    write_parts(writer, &parts![pdu.fields.ts, ", CTS ", pdu.fields.cts])?;
+    tell!(writer, pdu.fields.ts, ", CTS ", pdu.fields.cts)?;
     write_owners(writer, fillings, pdu)
 }
 
@@ -162,24 +158,19 @@ fn write_taken<W: Sink>(
 ) -> Result<(), Fault>
     ensures err { IfErr result (λ f. f ≡ write_failed) }
 {
-    write_parts(
+    tell!(
         writer,
-        &parts![
-            direction.sender,
-            " to ",
-            direction.sender.other(),
-            ": ",
-            direction.taken,
-            " of ",
-            direction.messages.len() as u64,
-            " captured messages surely taken"
-        ],
+        direction.sender,
+        " to ",
+        direction.sender.other(),
+        ": ",
+        direction.taken,
+        " of ",
+        direction.messages.len() as u64,
+        " captured messages surely taken"
     )?;
     if fillings > 1 {
-        write_parts(
-            writer,
-            &parts![", under each of ", fillings as u64, " fillings"],
-        )?;
+        tell!(writer, ", under each of ", fillings as u64, " fillings")?;
     }
     write_words(writer, "\n")
 }
@@ -208,15 +199,13 @@ fn write_fillings<W: Sink>(
 {
     let fillings = hypothesis.supposition.fillings.as_slice();
     let count = first.pdus.len();
-    write_parts(
+    tell!(
         writer,
-        &parts![
-            "\nexplained with ",
-            count as u64,
-            " supposed PDU",
-            plural(count),
-            ", as a hypothesis: if the tap missed what follows, the rules can explain all packets\n"
-        ],
+        "\nexplained with ",
+        count as u64,
+        " supposed PDU",
+        plural(count),
+        ", as a hypothesis: if the tap missed what follows, the rules can explain all packets\n"
     )?;
     for pdu in &first.pdus {
         write_pdu(writer, account.packets, fillings, pdu)?;
@@ -231,15 +220,13 @@ fn write_tried<W: Sink>(writer: &mut W, packets: &[Sighting], tried: &Tried) -> 
     ensures err { IfErr result (λ f. f ≡ write_failed) }
 {
     let number = tried.kind.number();
-    write_parts(
+    tell!(
         writer,
-        &parts![
-            "    ",
-            number,
-            ", ",
-            tried.kind.name(),
-            ": explains all packets before "
-        ],
+        "    ",
+        number,
+        ", ",
+        tried.kind.name(),
+        ": explains all packets before "
     )?;
     write_parts(writer, &place_of(packets, place_at(tried.reach)))
 }
@@ -248,15 +235,13 @@ fn write_tried<W: Sink>(writer: &mut W, packets: &[Sighting], tried: &Tried) -> 
 fn write_missing<W: Sink>(writer: &mut W, packets: &[Sighting], gap: &Gap) -> Result<(), Fault>
     ensures err { IfErr result (λ f. f ≡ write_failed) }
 {
-    write_parts(
+    tell!(
         writer,
-        &parts![
-            "  from the ",
-            gap.sender,
-            ", ",
-            gap.missing,
-            " missing, before "
-        ],
+        "  from the ",
+        gap.sender,
+        ", ",
+        gap.missing,
+        " missing, before "
     )?;
     write_parts(writer, &place_of(packets, place_at(gap.place)))
 }

@@ -37,7 +37,7 @@ fn plain_front(bytes: &[u8]) -> usize
 }
 
 fn write_escape<W: Sink>(writer: &mut W, byte: u8) -> Result<(), Fault>
-    ensures written { AsWritten result (W.failure_count writer.old) (W.failure_count writer.new) }
+    ensures written { AsWritten W.failure_count result writer.old writer.new }
 {
     match escape_of(byte) {
         Some(escape) => write_all(writer, escape),
@@ -50,7 +50,7 @@ fn write_escape<W: Sink>(writer: &mut W, byte: u8) -> Result<(), Fault>
 
 // Writes what stands in a string for these bytes of UTF-8.
 fn write_content<W: Sink>(writer: &mut W, bytes: &[u8]) -> Result<(), Fault>
-    ensures written { AsWritten result (W.failure_count writer.old) (W.failure_count writer.new) }
+    ensures written { AsWritten W.failure_count result writer.old writer.new }
 {
     let mut rest = bytes;
     while !rest.is_empty() {
@@ -67,7 +67,7 @@ fn write_content<W: Sink>(writer: &mut W, bytes: &[u8]) -> Result<(), Fault>
 
 /// Writes words as a JSON string.
 pub fn write_string<W: Sink>(writer: &mut W, words: &str) -> Result<(), Fault>
-    ensures written { AsWritten result (W.failure_count writer.old) (W.failure_count writer.new) }
+    ensures written { AsWritten W.failure_count result writer.old writer.new }
 {
     write_all(writer, b"\"")?;
     write_content(writer, words.as_bytes())?;
@@ -76,7 +76,7 @@ pub fn write_string<W: Sink>(writer: &mut W, words: &str) -> Result<(), Fault>
 
 /// Writes words that go over several lines as a JSON string, in one line.
 pub fn write_sentence<W: Sink>(writer: &mut W, words: &str) -> Result<(), Fault>
-    ensures written { AsWritten result (W.failure_count writer.old) (W.failure_count writer.new) }
+    ensures written { AsWritten W.failure_count result writer.old writer.new }
 {
     write_all(writer, b"\"")?;
     let mut before: &[u8] = b"";
@@ -121,7 +121,7 @@ fn put_byte(byte: u8, room: &mut [u8]) -> usize
 
 /// Writes bytes as text, as a JSON string: those that aren't printable ASCII as `\xNN`.
 pub fn write_bytes<W: Sink>(writer: &mut W, bytes: &[u8]) -> Result<(), Fault>
-    ensures written { AsWritten result (W.failure_count writer.old) (W.failure_count writer.new) }
+    ensures written { AsWritten W.failure_count result writer.old writer.new }
 {
     let mut room = [0u8; ROOM];
     let mut len = 0;
@@ -150,7 +150,7 @@ pub fn quotes_of(n: u64) -> &'static str
 
 /// Writes a number of 64 bits, between its quotes.
 pub fn write_long<W: Sink>(writer: &mut W, n: u64) -> Result<(), Fault>
-    ensures written { AsWritten result (W.failure_count writer.old) (W.failure_count writer.new) }
+    ensures written { AsWritten W.failure_count result writer.old writer.new }
 {
     let quote = quotes_of(n);
     let parts = [Part::Words(quote), Part::Number(n), Part::Words(quote)];

@@ -39,7 +39,7 @@ impl Room {
     /// Puts bytes behind those that are there. Where they don't fit, those that are there are written first.
     #[inline(always)]
     pub fn put<W: Sink>(&mut self, writer: &mut W, bytes: &[u8]) -> Result<(), Fault>
-        ensures written { AsWritten result (W.failure_count writer.old) (W.failure_count writer.new) }
+        ensures written { AsWritten W.failure_count result writer.old writer.new }
     {
         if self.append(bytes) {
             Ok(())
@@ -51,7 +51,7 @@ impl Room {
     // Writes what is there, and puts bytes in its place; those that are longer than the room are written too.
     #[inline(never)]
     fn put_behind<W: Sink>(&mut self, writer: &mut W, bytes: &[u8]) -> Result<(), Fault>
-        ensures written { AsWritten result (W.failure_count writer.old) (W.failure_count writer.new) }
+        ensures written { AsWritten W.failure_count result writer.old writer.new }
     {
         self.write(writer)?;
         if self.append(bytes) {
@@ -63,7 +63,7 @@ impl Room {
 
     /// Writes what is there, and leaves the room empty.
     pub fn write<W: Sink>(&mut self, writer: &mut W) -> Result<(), Fault>
-        ensures written { AsWritten result (W.failure_count writer.old) (W.failure_count writer.new) }
+        ensures written { AsWritten W.failure_count result writer.old writer.new }
     {
         let len = self.len;
         self.len = 0;

@@ -112,11 +112,19 @@ macro_rules! parts {
     };
 }
 
+/// Writes the parts of a line, one after the other.
+#[macro_export]
+macro_rules! tell {
+    ($writer:expr, $($part:expr),* $(,)?) => {
+        $crate::write_parts($writer, &[$($crate::Part::from($part)),*])
+    };
+}
+
 const ZEROS: [u8; 6] = *b"000000";
 
 // Puts a number.
 fn put_number<W: Sink>(writer: &mut W, room: &mut Room, n: u64) -> Result<(), Fault>
-    ensures written { AsWritten result (W.failure_count writer.old) (W.failure_count writer.new) }
+    ensures written { AsWritten W.failure_count result writer.old writer.new }
 {
     let mut buffer = Buffer::new();
     room.put(writer, buffer.format(n).as_bytes())
@@ -136,7 +144,7 @@ pub(crate) fn digits_of_byte(byte: u8) -> [u8; 2]
 
 // Puts bytes as text: a backslash is doubled, and a byte that isn't printable is told by its digits.
 fn put_text<W: Sink>(writer: &mut W, room: &mut Room, bytes: &[u8]) -> Result<(), Fault>
-    ensures written { AsWritten result (W.failure_count writer.old) (W.failure_count writer.new) }
+    ensures written { AsWritten W.failure_count result writer.old writer.new }
 {
     for byte in bytes {
         match *byte {
@@ -153,7 +161,7 @@ fn put_text<W: Sink>(writer: &mut W, room: &mut Room, bytes: &[u8]) -> Result<()
 
 // Puts bytes in hexadecimal digits, which are spelled many at once.
 fn put_hex<W: Sink>(writer: &mut W, room: &mut Room, bytes: &[u8]) -> Result<(), Fault>
-    ensures written { AsWritten result (W.failure_count writer.old) (W.failure_count writer.new) }
+    ensures written { AsWritten W.failure_count result writer.old writer.new }
 {
     room.write(writer)?;
     write_hex(bytes, writer)
@@ -161,7 +169,7 @@ fn put_hex<W: Sink>(writer: &mut W, room: &mut Room, bytes: &[u8]) -> Result<(),
 
 // Puts so many nanoseconds in milliseconds, with six digits behind the point.
 fn put_milliseconds<W: Sink>(writer: &mut W, room: &mut Room, nanoseconds: u64) -> Result<(), Fault>
-    ensures written { AsWritten result (W.failure_count writer.old) (W.failure_count writer.new) }
+    ensures written { AsWritten W.failure_count result writer.old writer.new }
 {
     put_number(writer, room, nanoseconds / 1_000_000)?;
     let mut buffer = Buffer::new();
@@ -174,7 +182,7 @@ fn put_milliseconds<W: Sink>(writer: &mut W, room: &mut Room, nanoseconds: u64) 
 
 // Puts an address and a port, as `10.0.0.1:5000`.
 fn put_endpoint<W: Sink>(writer: &mut W, room: &mut Room, endpoint: Endpoint) -> Result<(), Fault>
-    ensures written { AsWritten result (W.failure_count writer.old) (W.failure_count writer.new) }
+    ensures written { AsWritten W.failure_count result writer.old writer.new }
 {
     let [first, second, third, fourth] = endpoint.address;
     put_number(writer, room, u64::from(first))?;
@@ -190,7 +198,7 @@ fn put_endpoint<W: Sink>(writer: &mut W, room: &mut Room, endpoint: Endpoint) ->
 
 // Puts a part.
 fn put_part<W: Sink>(writer: &mut W, room: &mut Room, part: Part<'_>) -> Result<(), Fault>
-    ensures written { AsWritten result (W.failure_count writer.old) (W.failure_count writer.new) }
+    ensures written { AsWritten W.failure_count result writer.old writer.new }
 {
     match part {
         Part::Words(words) => room.put(writer, words.as_bytes()),
@@ -219,7 +227,7 @@ fn put_part<W: Sink>(writer: &mut W, room: &mut Room, part: Part<'_>) -> Result<
 
 /// Puts parts into a room, one after the other, and writes what is there where they don't fit.
 pub fn put_parts<W: Sink>(writer: &mut W, room: &mut Room, parts: &[Part<'_>]) -> Result<(), Fault>
-    ensures written { AsWritten result (W.failure_count writer.old) (W.failure_count writer.new) }
+    ensures written { AsWritten W.failure_count result writer.old writer.new }
 {
     for part in parts {
         put_part(writer, room, *part)?;
@@ -229,7 +237,7 @@ pub fn put_parts<W: Sink>(writer: &mut W, room: &mut Room, parts: &[Part<'_>]) -
 
 /// Writes parts, one after the other.
 pub fn write_parts<W: Sink>(writer: &mut W, parts: &[Part<'_>]) -> Result<(), Fault>
-    ensures written { AsWritten result (W.failure_count writer.old) (W.failure_count writer.new) }
+    ensures written { AsWritten W.failure_count result writer.old writer.new }
 {
     let mut room = Room::new();
     put_parts(writer, &mut room, parts)?;
@@ -242,7 +250,7 @@ pub fn write_parts_if<W: Sink>(
     applies: bool,
     parts: &[Part<'_>],
 ) -> Result<(), Fault>
-    ensures written { AsWritten result (W.failure_count writer.old) (W.failure_count writer.new) }
+    ensures written { AsWritten W.failure_count result writer.old writer.new }
 {
     if applies {
         write_parts(writer, parts)
@@ -258,14 +266,14 @@ pub fn numbered(words: &'static str, n: u64) -> [Part<'static>; 3] {
 
 /// Writes a part.
 pub fn write_part<W: Sink>(writer: &mut W, part: Part<'_>) -> Result<(), Fault>
-    ensures written { AsWritten result (W.failure_count writer.old) (W.failure_count writer.new) }
+    ensures written { AsWritten W.failure_count result writer.old writer.new }
 {
     write_parts(writer, &[part])
 }
 
 /// Writes words.
 pub fn write_words<W: Sink>(writer: &mut W, words: &str) -> Result<(), Fault>
-    ensures written { AsWritten result (W.failure_count writer.old) (W.failure_count writer.new) }
+    ensures written { AsWritten W.failure_count result writer.old writer.new }
 {
     write_all(writer, words.as_bytes())
 }

@@ -116,7 +116,7 @@ pub fn date_in(room: &mut [u8; 30], time: CaptureTime) -> &[u8] {
 
 /// Writes date and time of day in UTC, as `2024-11-24 12:00:00.000000`.
 pub fn write_time<W: Sink>(writer: &mut W, time: CaptureTime) -> Result<(), Fault>
-    ensures written { AsWritten result (W.failure_count writer.old) (W.failure_count writer.new) }
+    ensures written { AsWritten W.failure_count result writer.old writer.new }
 {
     let mut room = TIME;
     write_all(writer, time_in(&mut room, time))

@@ -8,7 +8,7 @@ use Rattle.rasta_udp.specs.Frame.{Packet}
 use Rattle.rasta_pdu.specs.declared.kind.Kind.TheVariants.{Heartbeat}
 use Rattle.rasta_pdu.specs.Params.{Parameters}
 use Rattle.rasta_pdu.specs.Pdu.{RedundancyPdu, Empty, redundancy_bytes, decode_of}
-use Rattle.rasta_check.specs.declared.crossing_store.StoredPacket.{StoredPacket}
+use Rattle.rasta_check.specs.declared.packet_store.StoredPacket.{StoredPacket}
 use Rattle.rasta_check.specs.Capture.SentLists.{FirstCopy, Spells}
 use Rattle.rasta_check.specs.Internals.Datagrams.{Kept, KeptDatagrams, kept_by}
 use Rattle.rasta_check.specs.Capture.Lists.{position_of_place}

@@ -12,4 +12,4 @@ pub returns-in-Err-2 : goal.returns-in-Err-2
 returns-in-Err-2 c =
     ReadsParameters-refused c.args.text.now _
     (document_of-refused c.args.text.now (c.in-Err.ensures.refused (λ memory. let yes = c.is_memory.ensures.1 memory in absurd (cc (yes, c.if-is_memory.false)))))
-    (ap Err c.at-in-Err-2.ensures)
+    (ap Err c.at.ensures)

@@ -35,7 +35,7 @@ returns-in-Err-clause-headline g c =
     (λ file refused status. absurd (cc)) c.write_refusal.ensures.out c.write_refusal.ensures.answered
 
 pub returns-in-Err-clause-err : goal.returns-in-Err-clause-err
-returns-in-Err-clause-err g c = write_fault c.write_refusal.result _ _ _ _ c.write_refusal.ensures.written
+returns-in-Err-clause-err g c = write_fault g.W.Sink.failure_count c.write_refusal.result _ _ _ _ c.write_refusal.ensures.written
 
 pub returns-in-Err-2-clause-begun : goal.returns-in-Err-2-clause-begun
 returns-in-Err-2-clause-begun g c =
@@ -74,7 +74,7 @@ returns-clause-begun g c =
     c.write_verdict.ensures.out
 
 pub returns-clause-err : goal.returns-clause-err
-returns-clause-err g c = write_fault c.write_verdict.result _ _ _ _ c.write_verdict.ensures.written
+returns-clause-err g c = write_fault g.W.Sink.failure_count c.write_verdict.result _ _ _ _ c.write_verdict.ensures.written
 
 pub returns-clause-headline : goal.returns-clause-headline
 returns-clause-headline g c =

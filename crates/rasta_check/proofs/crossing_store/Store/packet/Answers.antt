@@ -1,7 +1,0 @@
-use Rattle.rasta_check.proofs.Internals.StoreLists.{packet_read, stored_packet}
-use Rattle.std.proofs.lemmas.Grind.{common_steps}
-use Rattle.std.proofs.Common.{arith}
-use Rattle.rasta_check.proofs.crossing_store.Store.packet.Goals as goal
-
-pub returns-clause-value : goal.returns-clause-value
-returns-clause-value c = grind (arith, common_steps, packet_read, stored_packet)
