@@ -21,12 +21,8 @@ from collections import defaultdict, namedtuple
 from pathlib import Path
 
 CRATES = Path(__file__).resolve().parent.parent / "crates"
-OUTSIDE = {"rasta_draws", "rasta_plain", "rasta_rows", "rasta_layer_tests", "rasta_verdict_tests", "rasta_tests", "rasta_bench",
-    "seatmelon", "seatmelon_audit", "seatmelon_audit_tests", "seatmelon_capture", "seatmelon_commands", "seatmelon_connections", "seatmelon_explain", "seatmelon_explain_tests",
-    "seatmelon_packets", "seatmelon_pcapng", "seatmelon_pcapng_tests", "seatmelon_reading",
-    "seatmelon_account", "seatmelon_many", "seatmelon_show", "seatmelon_suppose", "seatmelon_survey", "seatmelon_survey_tests", "seatmelon_tally",
-    "seatmelon_telling", "seatmelon_text", "seatmelon_words",
-    "seatmelon_workloads"}
+# How the names of crates begin whose definitions don't count: those of the program `seatmelon`, and of trials.
+OUTSIDE = ("seatmelon", "trials_")
 WIDTH = 120
 Definition = namedtuple("Definition", "crate file name text lines")
 
@@ -143,9 +139,9 @@ class Library:
     def kinds_in(self, text):
         """The types that a declaration or a signature mentions: the model of each that has one, else its declaration."""
         words = set(re.findall(r"\w+", text))
-        models = [("model", *it) for it in self.models if it[1] in words and it[0] not in OUTSIDE]
+        models = [("model", *it) for it in self.models if it[1] in words and not it[0].startswith(OUTSIDE)]
         seen = {it[2] for it in models}
-        types = [("type", *it) for it in self.types if it[1] in words - seen and it[0] not in OUTSIDE]
+        types = [("type", *it) for it in self.types if it[1] in words - seen and not it[0].startswith(OUTSIDE)]
         return models + types
 
     def definition(self, key):

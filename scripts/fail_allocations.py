@@ -12,8 +12,8 @@ refuses, it writes nothing to standard output. An audit of many connections may 
 and the others as with ample memory. `rt run` in crates/seatmelon leaves it.
 
 With `tests`: tests that repeat a call that ran out of memory, of ends, of writing a datagram, of reading a
-certificate, and of a check, a build and an audit of data. `rt test` in crates/rasta_layer_tests and
-crates/rasta_verdict_tests leaves them.
+certificate, and of a check, a build and an audit of data. `rt test` in crates/trials_layers and
+crates/trials_verdicts leaves them.
 Needs gcc; plain Python 3, no other packages.
 """
 
@@ -44,10 +44,10 @@ EXPLAINED = ["retransmission", "quiet_start", "repeated_request", "flipped_bit"]
 THREE = ["retransmission", "wrapped", "both_ask"]
 # Crate, test, and the first of its allocations that may fail; those before it belong to the test itself.
 TESTS = [
-    ("rasta_layer_tests", "ends::ends_by_rows", 1),
-    ("rasta_layer_tests", "certificates::certificate_is_read_again", 1),
-    ("rasta_layer_tests", "pdus::datagrams_are_written_again", 1),
-    ("rasta_verdict_tests", "device_tests::memory_runs_out", 121),
+    ("trials_layers", "ends::ends_by_rows", 1),
+    ("trials_layers", "certificates::certificate_is_read_again", 1),
+    ("trials_layers", "pdus::datagrams_are_written_again", 1),
+    ("trials_verdicts", "device_tests::memory_runs_out", 121),
 ]
 
 

@@ -1,5 +1,5 @@
 #!/usr/bin/env python3
-"""The rows of verdicts of crates/rasta_verdict_tests/src/verdict_rows.rt, as files.
+"""The rows of verdicts of crates/trials_verdicts/src/verdict_rows.rt, as files.
 
     rows.py                             prints the names of the rows
     rows.py NAME FOLDER                 writes capture.pcap, parameters.toml, certificate.cert and text.txt of a row
@@ -22,7 +22,7 @@ import sys
 import tempfile
 
 TOP = pathlib.Path(__file__).resolve().parent.parent
-SOURCE = TOP / "crates/rasta_verdict_tests/src/verdict_rows.rt"
+SOURCE = TOP / "crates/trials_verdicts/src/verdict_rows.rt"
 PROGRAM = TOP / "crates/rasta_audit/out/rasta_audit"
 
 CLIENT_MAC, SERVER_MAC = bytes.fromhex("020000000001"), bytes.fromhex("020000000002")

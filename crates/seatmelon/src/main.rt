@@ -5,8 +5,6 @@
 //! classic ones.
 #![tactic(auto)]
 
-#[cfg(test)]
-mod tests;
 mod version;
 
 use crate::version::write_version;

@@ -9,8 +9,6 @@ mod line;
 mod listing;
 mod payload;
 mod sight;
-#[cfg(test)]
-mod tests;
 
 pub use choice::{Choice, Types};
 pub use counts::Counts;

@@ -1,4 +1,5 @@
-//! Captures that are made in memory.
+//! Captures that are made in memory: by code of their own, and not by that of `trials_rows`, which makes those of tests,
+//! since the instructions that make a capture count with a workload's, which are compared with those of older checkouts.
 use rasta_pdu::Endpoint;
 use std::alloc::Global;
 

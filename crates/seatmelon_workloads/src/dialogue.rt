@@ -2,10 +2,10 @@
 use crate::capture::Capture;
 use crate::traffic::Traffic;
 use rasta_cert::Entry;
-use rasta_draws::Draws;
 use rasta_end::Why;
 use rasta_pdu::{Body, Channel, Endpoint, Kind, Params, PduParts, Side, encode};
 use std::alloc::Global;
+use trials_draws::Draws;
 
 /// How many random bytes messages are cut from.
 pub const NOISE: usize = 65_536;

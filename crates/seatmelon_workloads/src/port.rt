@@ -1,10 +1,10 @@
 //! A mirrored port: many connections at once, among other traffic, whose openings came before.
 use crate::capture::Capture;
 use crate::dialogue::{NOISE, noise, way_of};
-use rasta_draws::Draws;
 use rasta_pdu::{Body, Channel, Endpoint, Kind, Params, PduParts, Side, encode};
 use std::alloc::Global;
 use std::collections::VecDeque;
+use trials_draws::Draws;
 
 // How many connections cross the port.
 const CONNECTIONS: u32 = 300;

@@ -1,5 +1,0 @@
-use Rattle.std.proofs.Common.{rules}
-use Rattle.rasta_plain.proofs.world.PlainWorld.start.Goals as goal
-
-pub returns : goal.returns
-returns c = search rules

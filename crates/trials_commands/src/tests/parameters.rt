@@ -1,0 +1,136 @@
+//! Parameter files that are refused, and those that a draft keeps.
+use super::made::{Broken, NO_RECORD, Refused, one_request};
+use rasta_pcap::devices::Pieces;
+use seatmelon_commands::{Draft, params_in, status, survey_of, whole_of, with_params};
+use std::alloc::Global;
+use std::process::Abort;
+
+// Parameter files, and what is said of them.
+const REFUSED_PARAMETERS: [Refused; 10] = [
+    Refused {
+        file: b"",
+        text: "p: client_id is missing; it must be a whole number from 0 to 4294967295 (51 MissingKey)",
+    },
+    Refused {
+        file: b"client_id = 96\nserver_id = 96\n",
+        text: "p: line 2: server_id must be a whole number from 0 to 4294967295, and not client_id (52 BadValue)",
+    },
+    Refused {
+        file: b"# lengths\n  \"code_length\" = 12\nserver_id = 97\nclient_id = 96\n",
+        text: "p: line 2: code_length must be 0, 8 or 16 (52 BadValue)",
+    },
+    Refused {
+        file: b"client_id = 96\nserver_id = 97\ncode_length = 0\ncheck_length = 0\nn_sendmax = 20\n\
+            [[channel]]\nt_max = 1800\n",
+        text: "p: line 7: t_max stands in a table; it must stand before the first one (51 MissingKey)",
+    },
+    Refused {
+        file: b"client_id = 96\nserver_id = 97\ncode_length = 0\ncheck_length = 0\nn_sendmax = 20\nt_max = 1800\n\
+            slack = 0\n[[channel]]\nclient = \"10.0.0.1:5000\"\n",
+        text: "p: line 8: channel must be one to four tables with only client and server, each a text \
+               \"a.b.c.d:port\", no direction twice (51 MissingKey)",
+    },
+    Refused {
+        file: b"slack = 0\ntmax = 1\nclient_id = 96\nserver_id = 97\ncode_length = 0\ncheck_length = 0\n\
+            n_sendmax = 20\nt_max = 1800\n[[channel]]\nclient = \"10.0.0.1:5000\"\nserver = \"10.0.0.2:5000\"\n",
+        text: "p: line 2: a parameter file has no key tmax; did you mean t_max? (52 BadValue)",
+    },
+    Refused {
+        file: b"slack = 0\nclient_id = 96\nserver_id = 97\ncode_length = 0\ncheck_length = 0\n\
+            n_sendmax = 20\nt_max = 1800\n[[channel]]\nclient = \"10.0.0.1:5000\"\nserver = \"10.0.0.2:5000\"\n[more]\n",
+        text: "p: line 11: a parameter file has no key more (52 BadValue)",
+    },
+    Refused {
+        file: b"slack = 0\nclient_id = 96\nserver_id = 97\ncode_length = 0\ncheck_length = 0\n\
+            n_sendmax = 20\nt_max = 1800\nquiet.client = { next_sn = 5, clock = 5 }\n\
+            [[channel]]\nclient = \"10.0.0.1:5000\"\nserver = \"10.0.0.2:5000\"\n",
+        text: "p: line 8: quiet must be a table with only client and server, each with next_sn, clock and, \
+               if any, deadline and handed_ts (51 MissingKey)",
+    },
+    Refused {
+        file: b"client_id = 96\nserver_id 97\n",
+        text: "p: line 2: this is no TOML document: key with no value, expected `=` (50 Toml)",
+    },
+    Refused {
+        file: NO_RECORD,
+        text: "p: line 1: this is no TOML document: invalid UTF-8 (50 Toml)\n\
+               this looks like a capture: are CAPTURE and PARAMS swapped?",
+    },
+];
+
+// Whether these parameters are refused so.
+fn is_refused_so(alloc: Global, refused: &Refused) -> Option<bool> {
+    let failure = params_in(alloc, "p", refused.file).err()?;
+    let text = failure.to_string(alloc).ok()?;
+    Some(text.as_str() == refused.text && status(&failure) == 2)
+}
+
+#[test]
+fn refused_parameters(rt: HostRuntime) {
+    for refused in &REFUSED_PARAMETERS {
+        assert_eq!(rt;
+            is_refused_so(rt.alloc(), refused),
+            Some(true),
+            "{}",
+            refused.text
+        );
+    }
+}
+
+// Whether a file is read whole as these bytes.
+fn is_read_whole(alloc: Global, bytes: &[u8]) -> Option<bool> {
+    let read = whole_of(alloc, "p", Pieces::new(bytes, 5)).ok()?;
+    Some(read.as_slice() == bytes)
+}
+
+// Whether a file can't be read, for this reason.
+fn is_unread(alloc: Global, text: &str) -> Option<bool> {
+    let failure = whole_of(alloc, "p", Broken { number: 5 }).err()?;
+    Some(failure.to_string(alloc).ok()?.as_str() == text)
+}
+
+#[test]
+fn files_that_are_read_whole(rt: HostRuntime) {
+    assert_eq!(rt; is_read_whole(rt.alloc(), NO_RECORD), Some(true));
+    assert_eq!(rt; is_unread(rt.alloc(), "p: Input/output error"), Some(true));
+}
+
+/// Parameters by which the client of the request opens the connection.
+pub const PARAMETERS: &[u8] =
+    b"client_id = 96\nserver_id = 97\ncode_length = 0\ncheck_length = 0\nn_sendmax = 20\n\
+    t_max = 1800\nslack = 0\n[[channel]]\nclient = \"10.0.0.1:5000\"\nserver = \"10.0.0.2:5000\"\n";
+
+/// The same, of another server.
+pub const OTHER_PARAMETERS: &[u8] =
+    b"client_id = 96\nserver_id = 98\ncode_length = 0\ncheck_length = 0\nn_sendmax = 20\n\
+    t_max = 1800\nslack = 0\n[[channel]]\nclient = \"10.0.0.1:5000\"\nserver = \"10.0.0.2:5000\"\n";
+
+// Why these parameters aren't kept in the draft of the one request, behind the status; nothing where they are.
+fn unkept_text(alloc: Global, parameters: &[u8]) -> Option<String> {
+    let request = one_request(alloc)?;
+    let survey = survey_of(alloc, "c", request.as_slice(), None).ok()?;
+    let params = params_in(alloc, "p", parameters).ok()?;
+    let draft = Draft {
+        connection: survey.connections().first()?,
+        fault: None,
+        format: survey.format(),
+        kept: None,
+    };
+    match with_params(alloc, "p", 1, draft, &params) {
+        Ok(_) => String::from_str(alloc, "").ok(),
+        Err(failure) => format!(in alloc; "{} {failure}", status(&failure)).ok(),
+    }
+}
+
+// Whether these parameters are kept, or this is said of them.
+fn are_kept_or_told(alloc: Global, parameters: &[u8], text: &str) -> Option<bool> {
+    Some(unkept_text(alloc, parameters)?.as_str() == text)
+}
+
+#[test]
+fn parameters_of_other_ids_are_not_kept(rt: HostRuntime) {
+    let alloc = rt.alloc();
+    assert_eq!(rt; are_kept_or_told(alloc, PARAMETERS, ""), Some(true));
+    let text = "2 p: client_id and server_id are not those of connection 1";
+    assert_eq!(rt; are_kept_or_told(alloc, OTHER_PARAMETERS, text), Some(true));
+}

@@ -1,0 +1,5 @@
+//! Tests of listings of the packets of a connection.
+#![tactic(auto)]
+
+#[cfg(test)]
+mod listing_tests;
