@@ -2,12 +2,14 @@
 """Runs the gate and writes how long each of its steps took.
 
     scripts/gate_times.py OUT [must-fail NAME..]
+    scripts/gate_times.py --table OUT
 
 Run it at the top of a fresh clone, with nothing beside it. It is `rt ci` (or `rt must-fail NAME..`) with a clock
 round each proof, each crate's tests and each must-fail edit: OUT gets a line for each step as it ends (minute of its
 start and of its end, seconds, jobs, what it was), and standard output is that of the gate, whose last line is its
 verdict. The line of an edit goes on with the seconds of its check's stages, where they take a tenth or more. The last
-line of OUT is the minutes of processors that all steps took together.
+line of OUT is the minutes of processors that all steps took together. `--table` writes the seconds of each crate in an
+OUT as the table that docs/FIGURES.md has.
 """
 import importlib.machinery
 import importlib.util
@@ -30,7 +32,37 @@ def load_gate():
     return module
 
 
+def seconds(steps):
+    return f"{sum(steps):.0f}" if sum(steps) >= 0.5 else "–"
+
+
+def row(crate, steps):
+    """A crate's row of the table."""
+    edits = sorted(steps.get("edit", []))
+    tried = f"{sum(edits):.0f} ({len(edits)})" if edits else "–"
+    one = ", ".join(f"{edits[at]:.0f}" for at in (0, len(edits) // 2, -1)) if edits else "–"
+    cells = [f"`{crate}`", *(seconds(steps.get(it, [])) for it in ("proof", "seed", "tests")), tried, one]
+    return "| " + " | ".join(cells) + " |"
+
+
+def write_table(path):
+    crates = {}
+    with open(path, encoding="utf-8") as file:
+        for line in file:
+            parts = line.split()
+            if len(parts) < 6 or parts[4] not in ("proof", "seed", "tests", "edit"):
+                continue
+            crate = crates.setdefault(parts[5].split("/")[0], {})
+            crate.setdefault(parts[4], []).append(float(parts[2]))
+    print("| Crate | Proof, s | Seed, s | Tests, s | Edits, s (of how many) | One edit: least, middle, most, s |")
+    print("|---|---|---|---|---|---|")
+    for crate, steps in crates.items():
+        print(row(crate, steps))
+
+
 def main():
+    if sys.argv[1] == "--table":
+        return write_table(sys.argv[2])
     gate, started, lock = load_gate(), time.time(), threading.Lock()
     stages = threading.local()
     out = open(sys.argv[1], "w", encoding="utf-8")
