@@ -8,4 +8,5 @@ mod texts;
 
 pub use line::Line;
 pub use messages::{write_hex, write_message};
+pub use rasta_pcap::{Fault, Side, Sink, Source};
 pub use texts::{end_name, refusal_line, write_refusal};

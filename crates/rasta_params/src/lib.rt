@@ -8,3 +8,4 @@ mod quiet_table;
 mod start_words;
 
 pub use document::{KEYS, params};
+pub use rasta_pdu::{Fault, Side, Sink, Source};

@@ -22,5 +22,8 @@ pub fn recorded_packet<'a>(
     if record.number < params.first_record() {
         return Ok(None);
     }
-    datagram(record, params.channel())
+    match datagram(record, params.channel()) {
+        Ok(found) => Ok(found),
+        Err(fault) => Err(Fault::at(fault.number, record.number)),
+    }
 }

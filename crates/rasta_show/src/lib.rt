@@ -7,4 +7,5 @@ mod show;
 mod shown_packet;
 mod texts;
 
+pub use rasta_pdu::{Fault, Side, Sink, Source};
 pub use show::run_show;

@@ -183,8 +183,3 @@ packet_of d = record { channel = d.channel; side = d.side; payload = d.payload.n
 -- the packet of these channels that a frame holds: none, or a fault
 unfoldable pub packet_in : List Channel → List ℕ → Result (Option Packet) Fault
 packet_in channels frame = map_found (packet_at frame) (datagram_of channels frame)
-
--- a fault names the record of its frame
-abbrev pub at_record : ℕ → Result (Option Packet) Fault → Result (Option Packet) Fault
-at_record number (Ok found) = Ok found
-at_record number (Err fault) = Err (fault_at fault.number number)

@@ -1,6 +1,6 @@
 //! The datagram in a captured frame.
 ghost use Rattle.std.specs.Prelude.{◌≡◌, ◌+◌, ◌≤◌, [], ◌∷◌, length, option_map, ◌||◌, nat_lt, ◌==◌};
-ghost use Rattle.rasta_udp.specs.Frame.{Direction, address_of, header_length_of, fields_of, has_addresses, has_known_addresses, goes, direction_of, map_found, packet_of, packet_at, untagged_of, packet_in, at_record};
+ghost use Rattle.rasta_udp.specs.Frame.{Direction, address_of, header_length_of, fields_of, has_addresses, has_known_addresses, goes, direction_of, map_found, packet_of, packet_at, untagged_of, packet_in};
 
 use crate::channel::{Channel, Datagram, Endpoint};
 use crate::fields::{header_length, is_tagged, u16_at, u32_at};
@@ -171,18 +171,14 @@ pub fn datagram_in<'a>(frame: &'a [u8], channels: &[Channel]) -> Result<Option<D
     }
 }
 
-/// The datagram of a channel in the frame of a record, as [`datagram_in`] finds it, but with the number of the
-/// record as the place of its fault.
+/// The datagram of a channel in the frame of a record, as [`datagram_in`] finds it.
 #[inline(always)]
 pub fn datagram<'a>(
     record: &Record<'a>,
     channels: &[Channel],
 ) -> Result<Option<Datagram<'a>>, Fault>
     requires { length channels.now ≤ 255 }
-    ensures { map_found packet_of result ≡ at_record «record».now.number (packet_in channels.now «record».now.bytes.now) }
+    ensures { map_found packet_of result ≡ packet_in channels.now «record».now.bytes.now }
 {
-    match datagram_in(record.bytes, channels) {
-        Ok(found) => Ok(found),
-        Err(fault) => Err(Fault::at(fault.number, record.number)),
-    }
+    datagram_in(record.bytes, channels)
 }

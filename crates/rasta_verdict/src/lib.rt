@@ -14,4 +14,5 @@ mod verdict;
 pub use audit::{run_audit, run_build};
 pub use check::{run_check, run_check_by_value};
 pub use given::judge_by;
+pub use rasta_pdu::{Fault, Side, Sink, Source};
 pub use verdict::{Explanation, Verdict};

@@ -8,7 +8,8 @@ use Rattle.rasta_pcap.specs.declared.fault.Fault.{Fault}
 use Rattle.rasta_pcap.specs.declared.time.CaptureTime.{CaptureTime}
 use Rattle.rasta_pcap.specs.Capture.{Numbered}
 use Rattle.rasta_pcap.specs.Captured.{Captured, numbered}
-use Rattle.rasta_udp.specs.Frame.{at_record, Packet, packet_in}
+use Rattle.rasta_udp.specs.Frame.{Packet, packet_in}
+use Rattle.rasta_pdu.specs.Records.{at_record}
 use Rattle.rasta_pdu.specs.Params.{Parameters}
 use Rattle.rasta_check.specs.Capture.Building.{crossed_in}
 use Rattle.rasta_check.specs.Capture.Crossing.{Crossing}

@@ -21,9 +21,9 @@ use Rattle.rasta_pcap.proofs.Steps.{next-fault_place, next-is_next_entry, readin
 use Rattle.rasta_pcap.specs.Fault.{fault_at, no_memory, read_failed}
 use Rattle.rasta_pcap.specs.declared.stream.RecordReader.{RecordReader}
 use Rattle.rasta_pcap.specs.Stream.{FailsWithin, LacksMemory, MeetsEnd, Opens, ReadsRecord, RefusesHeader, RefusesRecord, count_in, order_in, room_in, unit_in}
-use Rattle.rasta_udp.specs.Frame.{at_record, Packet, packet_in}
+use Rattle.rasta_udp.specs.Frame.{Packet, packet_in}
 use Rattle.rasta_pdu.specs.Params.{Parameters}
-use Rattle.rasta_pdu.specs.Records.{recorded_packet}
+use Rattle.rasta_pdu.specs.Records.{at_record, recorded_packet}
 use Rattle.rasta_check.specs.Capture.SentLists.{FirstCopy}
 use Rattle.rasta_check.specs.Capture.Crossing.{Crossing, nothing_crossed}
 use Rattle.rasta_check.specs.Capture.Reading.{after_found, after_packet, after_reading, after_record, after_records, then_crossing, crossing_with}

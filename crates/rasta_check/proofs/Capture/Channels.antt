@@ -6,8 +6,8 @@ use Rattle.std.specs.List.{find}
 use Rattle.rasta_udp.specs.declared.channel.Channel.{Channel}
 use Rattle.rasta_udp.specs.declared.channel.Datagram.{Datagram}
 use Rattle.rasta_pcap.specs.Capture.{Numbered}
-use Rattle.rasta_pdu.specs.Records.{recorded_packet}
-use Rattle.rasta_udp.specs.Frame.{at_record, Direction, Fields, Found, directions_from, direction_of, fields_of, goes, found_by, is_tagged, map_found, untagged_of, without_tag, moved_on, datagram_of, packet_at}
+use Rattle.rasta_pdu.specs.Records.{at_record, recorded_packet}
+use Rattle.rasta_udp.specs.Frame.{Direction, Fields, Found, directions_from, direction_of, fields_of, goes, found_by, is_tagged, map_found, untagged_of, without_tag, moved_on, datagram_of, packet_at}
 use Rattle.rasta_check.specs.Capture.SentLists.{IsRecorded}
 
 -- a channel's number is one of so many from this one on
