@@ -3,10 +3,10 @@
 //! CERT` what a certificate explains of them, and `audit CAPTURE PARAMS` builds and checks.
 #![tactic(auto)]
 
-pub use rasta_commands::run_form;
-use rasta_commands::{Failure, Form, capture_at, file_at, finish, output, parse, status, words};
+pub use rasta_commands::{Failure, Form, form, run_form, status};
+use rasta_commands::{capture_at, file_at, finish, output, words};
 pub use rasta_params::params;
-use rasta_pdu::Fault;
+pub use rasta_pdu::{Fault, Side, Sink, Source};
 pub use rasta_show::run_show;
 pub use rasta_verdict::{run_audit, run_build, run_check};
 use std::process::ExitCode;
@@ -30,7 +30,7 @@ fn write_form<R: AllocGlobal + Files + Print>(rt: &R, form: &Form<'_>) -> Result
 
 fn answer<R: AllocGlobal + Env + Files + Print>(rt: &R) -> Result<u8, Failure> {
     let words = words(rt)?;
-    let form = parse(rt.alloc(), &words)?;
+    let form = form(rt.alloc(), &words)?;
     write_form(rt, &form).map_err(Failure::Refused)
 }
 

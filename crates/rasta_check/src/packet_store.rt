@@ -1,8 +1,9 @@
 //! What each side sent, with the bytes of first copies alone.
 ghost use Rattle.std.specs.Prelude.{◌≡◌, ℕ, ◌∷◌, ◌++◌, [], ◌<◌, length, map, is_some, is_none, option_map, slice_get, None, Some, Ok, Err, IfSome, MatchOption, MatchResult, OnOk, OnErr, ◌⊎◌, nat_lt, not, ◌&&◌, ◌||◌, bytes_eq};
 ghost use Rattle.rasta_pcap.specs.Fault.{no_memory};
-ghost use Rattle.rasta_udp.specs.Frame.{Packet, packet_of};
+ghost use Rattle.rasta_udp.specs.Frame.{Packet, map_found, packet_of};
 ghost use Rattle.rasta_pdu.specs.Pdu.{RedundancyPdu, decode_of, redundancy_bytes};
+ghost use Rattle.rasta_pdu.specs.Records.{recorded_packet};
 ghost use Rattle.rasta_check.specs.Capture.SentLists.{FirstCopy, Spells, number_in_bytes};
 ghost use Rattle.rasta_check.specs.Capture.PacketFaults.{is_next_number, packet_fault};
 ghost use Rattle.rasta_check.specs.Internals.Datagrams.{kept_by};
@@ -37,6 +38,15 @@ fn packet_at(packets: &[StoredPacket], place: u32) -> Option<StoredPacket>
     ensures { result ≡ slice_get packets.now place }
 {
     packets.get(place as usize).copied()
+}
+
+// The packet of a record of the window, if it holds one. Inlined into what judges and keeps it, this costs more
+// instructions a packet than the call does.
+#[inline(never)]
+fn packet_in<'a>(params: &Params, record: &Record<'a>) -> Result<Option<Datagram<'a>>, Fault>
+    ensures packet { map_found packet_of result ≡ recorded_packet params.now («record».now.number, «record».now.bytes.now) }
+{
+    recorded_packet(params, record)
 }
 
 /// What crossed, as [`Sent`](crate::Sent) has it, apart from the capture: of packets that repeat another
@@ -344,7 +354,7 @@ impl Store {
             (λ f. (f ≡ no_memory) ⊎ (after_record self.old («record».now.number, «record».now.bytes.now) ≡ Err f)) }
         ensures kept { OnErr result (self.new ≡ self.old) }
     {
-        let Some(found) = recorded_packet(&self.params, record)? else {
+        let Some(found) = packet_in(&self.params, record)? else {
             return Ok(None);
         };
         self.add_packet(record.number, &found)?;

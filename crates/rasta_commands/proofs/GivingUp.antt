@@ -2,8 +2,8 @@
 use Rattle.std.proofs.Common.{◌≡◌, refl, ◌⊎◌, inl, inr, List, ℕ, Option, Result, Ok, Err, IfErr, IfOk, OnErr}
 use Rattle.rasta_pcap.specs.declared.fault.Fault.{Fault}
 use Rattle.rasta_params.specs.Keys.{ReadsParameters}
-use Rattle.rasta_commands.specs.declared.form.Form.{Form}
-use Rattle.rasta_commands.specs.declared.form.Form.TheVariants.{Show, Build, Check, Audit}
+use Rattle.rasta_commands.specs.declared.forms.Form.{Form}
+use Rattle.rasta_commands.specs.declared.forms.Form.TheVariants.{Show, Build, Check, Audit}
 use Rattle.rasta_commands.specs.Forms.{Devices, GivesUp, IsReadFault, ReadsWhole, StaysSilent, parameters_refused, parameters_unread}
 
 -- what is said of a fault, and what was begun, together

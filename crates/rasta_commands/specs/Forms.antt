@@ -8,8 +8,8 @@ use Rattle.rasta_pdu.specs.Params.{Parameters}
 use Rattle.rasta_params.specs.Keys.{ReadsParameters}
 use Rattle.rasta_show.specs.Show.{show_status, show_text}
 use Rattle.rasta_line.specs.Runs.{IsRunFault, WritesBeginning}
-use Rattle.rasta_commands.specs.declared.form.Form.{Form}
-use Rattle.rasta_commands.specs.declared.form.Form.TheVariants.{Show, Build, Check, Audit}
+use Rattle.rasta_commands.specs.declared.forms.Form.{Form}
+use Rattle.rasta_commands.specs.declared.forms.Form.TheVariants.{Show, Build, Check, Audit}
 use Rattle.rasta_verdict.specs.Verdict.{BeginsVerdict, IsVerdict, WritesVerdict}
 use Rattle.rasta_verdict.specs.Proposed.{BeginsOutcome, IsAudit, IsBuild}
 use Rattle.rasta_verdict.specs.Claims.{ClaimsHeadline}

@@ -1,6 +1,6 @@
 //! The command line.
 use crate::failure::Failure;
-use crate::form::Form;
+use crate::forms::Form;
 use clap::error::ErrorKind;
 use clap::{Arg, ArgMatches, Command, Error};
 use rasta_pdu::Fault;
@@ -78,7 +78,7 @@ fn failure_of(error: &Error) -> Failure {
 /// Reads the words after the program's name.
 ///
 /// Refused by [`Failure::Usage`] where they are none of the four forms, and by [`Fault::NO_MEMORY`].
-pub fn parse<'a>(alloc: Global, words: &'a [String]) -> Result<Form<'a>, Failure> {
+pub fn form<'a>(alloc: Global, words: &'a [String]) -> Result<Form<'a>, Failure> {
     let Ok(command) = command(alloc) else {
         return Err(Failure::Refused(Fault::no_memory()));
     };

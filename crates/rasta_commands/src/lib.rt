@@ -4,11 +4,12 @@
 mod command;
 mod failure;
 mod files;
-mod form;
+mod forms;
 mod running;
 
-pub use command::{parse, words};
+pub use command::{form, words};
 pub use failure::{Failure, status};
 pub use files::{capture_at, file_at, finish, output};
-pub use form::Form;
+pub use forms::Form;
+pub use rasta_pdu::{Fault, Side, Sink, Source};
 pub use running::run_form;

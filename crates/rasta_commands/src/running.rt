@@ -6,7 +6,7 @@ ghost use Rattle.rasta_line.specs.Runs.{IsRunFault};
 ghost use Rattle.rasta_verdict.specs.Verdict.{WritesVerdict};
 ghost use Rattle.rasta_commands.specs.Forms.{BeginsTelling, CarriesOut, GivesUp, HoldsDecision, HoldsHeadline, IsReadFault, ReadsCertificate, ReadsParameterFile, ReadsWhole, StaysSilent, Tells};
 
-use crate::form::Form;
+use crate::forms::Form;
 use rasta_params::params;
 use rasta_pcap::read_all;
 use rasta_pdu::{Fault, Params, Sink, Source};

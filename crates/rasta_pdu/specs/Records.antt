@@ -1,5 +1,5 @@
 -- The packet of the connection in a record.
-use Rattle.std.specs.Prelude.{Option, None, Result, Ok, Err, nat_lt, if◌then◌else◌}
+use Rattle.std.specs.Prelude.{ℕ, Option, None, Result, Ok, Err, nat_lt, if◌then◌else◌}
 use Rattle.rasta_pcap.specs.declared.fault.Fault.{Fault}
 use Rattle.rasta_pcap.specs.Capture.{Numbered}
 use Rattle.rasta_pcap.specs.Fault.{fault_at}

@@ -79,7 +79,7 @@ pub fn run_build<R: Source, W: Sink>(
 {
     let store = match store(alloc, *params, reader) {
         Ok(store) => store,
-        Err(fault) if fault.is_refusal() => return write_refusal(fault, writer),
+        Err(refusal) if refusal.is_refusal() => return write_refusal(refusal, writer),
         Err(fault) => return Err(fault),
     };
     let verdict = judge_proposed(alloc, &store)?;

@@ -1,5 +1,5 @@
 //! The command line, failures and their statuses.
-use rasta_commands::{Failure, parse, status};
+use rasta_commands::{Failure, form, status};
 use rasta_pdu::{Fault, Side};
 use std::alloc::Global;
 use std::process::Abort;
@@ -7,7 +7,7 @@ use trials_rows::words_in;
 
 // The form as a text, or the usage line's word where the words are refused by it.
 fn form_text(alloc: Global, words: &[String]) -> Option<String> {
-    match parse(alloc, words) {
+    match form(alloc, words) {
         Ok(form) => format!(in alloc; "{form:?}").ok(),
         Err(Failure::Usage) => String::from_str(alloc, "usage").ok(),
         Err(Failure::Refused(_)) => None,

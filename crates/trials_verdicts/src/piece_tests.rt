@@ -2,9 +2,9 @@
 ghost use Rattle.std.specs.Prelude.{None};
 
 use crate::cases::{Case, Command, case_of, commands_of, outcome_of, row_at, rows, told};
-use crate::show_tests::parameters;
-use rasta_pcap::Counted;
+use crate::show_tests::{heartbeat_file, parameters};
 use rasta_pcap::devices::{FailAt, Pieces};
+use rasta_pcap::{Counted, Pcap, Record, Stream, read_all};
 use rasta_pdu::{Params, Source};
 use rasta_show::run_show;
 use std::alloc::Global;
@@ -44,6 +44,65 @@ fn captures_come_in_pieces(rt: HostRuntime) {
     for row in rows().lines() {
         assert_eq!(rt; comes_in_pieces(rt.alloc(), row), Some(true), "{row}");
     }
+}
+
+// Whether both are the same record.
+fn is_same_record(one: &Record<'_>, other: &Record<'_>) -> bool {
+    one.number == other.number && one.bytes == other.bytes
+}
+
+// Whether a stream over pieces of a file gives what the file has in memory: its records, and its end or its fault.
+fn is_streamed(alloc: Global, file: &[u8], pieces: Pieces<'_>) -> Option<bool> {
+    let opened = (Pcap::open(file), Stream::open(alloc, Counted::new(pieces)));
+    let (mut pcap, mut stream) = match opened {
+        (Ok(pcap), Ok(stream)) => (pcap, stream),
+        (Err(one), Err(other)) => return Some(one == other),
+        _ => return Some(false),
+    };
+    for _ in 0..=file.len() {
+        match (pcap.next_record(), stream.next_record()) {
+            (Ok(Some(one)), Ok(Some(other))) if is_same_record(&one, &other) => {}
+            (Ok(None), Ok(None)) => return Some(true),
+            (Err(one), Err(other)) => return Some(one == other),
+            _ => return Some(false),
+        }
+    }
+    None
+}
+
+// Whether the capture of a row comes so in pieces of each size.
+fn comes_as_a_stream(alloc: Global, row: &str) -> Option<bool> {
+    let file = case_of(alloc, row)?.file;
+    let is_same = is_streamed(alloc, &file, Pieces::new(&file, 1))?
+        && is_streamed(alloc, &file, Pieces::new(&file, 7))?
+        && is_streamed(alloc, &file, Pieces::new(&file, 4096))?;
+    Some(is_same)
+}
+
+#[test]
+fn captures_come_as_streams(rt: HostRuntime) {
+    for row in rows().lines() {
+        assert_eq!(rt; comes_as_a_stream(rt.alloc(), row), Some(true), "{row}");
+    }
+}
+
+// Whether all bytes of a file are read, in pieces of this size.
+fn is_read_in(alloc: Global, file: &[u8], size: usize) -> bool {
+    match read_all(alloc, &mut Counted::new(Pieces::new(file, size))) {
+        Ok(bytes) => bytes.as_slice() == file,
+        Err(_) => false,
+    }
+}
+
+// Whether all of the heartbeat's file is read.
+fn is_read_whole(alloc: Global) -> Option<bool> {
+    let file = heartbeat_file(alloc)?;
+    Some(is_read_in(alloc, &file, 1) && is_read_in(alloc, &file, 7) && is_read_in(alloc, &file, 4096))
+}
+
+#[test]
+fn all_bytes_of_a_file_are_read(rt: HostRuntime) {
+    assert_eq!(rt; is_read_whole(rt.alloc()), Some(true));
 }
 
 // Whether a command with a window of three records says of a file what it says of its first three, and asks a

@@ -172,6 +172,11 @@ fn file_of_change(alloc: Global, change: &str) -> Option<Vec<u8>> {
     file_of(alloc, &[&frame])
 }
 
+/// A file of the heartbeat alone.
+pub fn heartbeat_file(alloc: Global) -> Option<Vec<u8>> {
+    file_of_change(alloc, "0 0  84")
+}
+
 // Whether the change of a row is shown so.
 fn is_frame_shown(alloc: Global, row: &str) -> Option<bool> {
     let (change, want) = row.split_once(" | ")?;

@@ -15,14 +15,14 @@ use Rattle.rasta_verdict.proofs.audit.run_build.Goals as goal
 pub returns-in-Err-clause-text : goal.returns-in-Err-clause-text
 returns-in-Err-clause-text g c =
     let p = c.args.params.now in
-    let f = c.in-Err.fault in
+    let f = c.in-Err.refusal in
     refusal_written (IsBuild p) p f c.write_refusal.result _ _ _ _ _ _ (sym c.if-is_refusal.ensures) c.in-Err.ensures.err
     (λ file refused. capture_refused f refused.value) c.write_refusal.ensures.out c.write_refusal.ensures.answered
 
 pub returns-in-Err-clause-begun : goal.returns-in-Err-clause-begun
 returns-in-Err-clause-begun g c =
     let p = c.args.params.now in
-    let f = c.in-Err.fault in
+    let f = c.in-Err.refusal in
     outcome_begun (IsBuild p) (IsRefusedSo p f) c.write_refusal.result (refused_line f) 1 _ _ _ _
     (where_refused p f _ _ _ _ (sym c.if-is_refusal.ensures) c.in-Err.ensures.err)
     (λ file refused. capture_refused f refused.value)
@@ -31,7 +31,7 @@ returns-in-Err-clause-begun g c =
 pub returns-in-Err-clause-decided : goal.returns-in-Err-clause-decided
 returns-in-Err-clause-decided g c =
     let p = c.args.params.now in
-    let f = c.in-Err.fault in
+    let f = c.in-Err.refusal in
     refusal_written (Decides p) p f c.write_refusal.result _ _ _ _ _ _ (sym c.if-is_refusal.ensures) c.in-Err.ensures.err
     (λ file refused. refused_decides p file f (refused_line f) 1 refused.value) c.write_refusal.ensures.out c.write_refusal.ensures.answered
 
@@ -41,7 +41,7 @@ returns-in-Err-2-clause-begun g c =
 
 pub returns-in-Err-2-clause-err : goal.returns-in-Err-2-clause-err
 returns-in-Err-2-clause-err g c =
-    where_broken c.args.params.now c.in-Err.fault _ _ _ _ _ _ (sym c.if-is_refusal.ensures) c.in-Err.ensures.err
+    where_broken c.args.params.now c.in-Err.refusal _ _ _ _ _ _ (sym c.if-is_refusal.ensures) c.in-Err.ensures.err
 
 -- ---- the verdict
 

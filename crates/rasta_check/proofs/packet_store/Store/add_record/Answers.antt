@@ -8,5 +8,5 @@ use Rattle.rasta_check.proofs.packet_store.Store.add_record.Goals as goal
 pub add_packet-requires : goal.add_packet-requires
 add_packet-requires c =
     let r : Numbered = (c.args.«record».now.number, c.args.«record».now.bytes.now) in
-    is_recorded_by c.args.self.now.params r c.recorded_packet.result c.in_ok-found.field-0 c.in-Some.found
-    (c.recorded_packet.ensures.packet ∙ ap (λ (k : Crossing). recorded_packet k.params r) c.self.view_is) c.in_ok-found.was c.in-Some.is
+    is_recorded_by c.args.self.now.params r c.packet_in.result c.in_ok-found.field-0 c.in-Some.found
+    (c.packet_in.ensures.packet ∙ ap (λ (k : Crossing). recorded_packet k.params r) c.self.view_is) c.in_ok-found.was c.in-Some.is

@@ -1,5 +1,5 @@
 use Rattle.std.proofs.Common.{rules}
-use Rattle.rasta_commands.proofs.form.Form.capture.Goals as goal
+use Rattle.rasta_commands.proofs.forms.Form.params.Goals as goal
 
 pub returns : goal.returns
 returns c = search rules
