@@ -29,7 +29,7 @@ pub captured_of : (p : Parameters) (without : List ℕ) (r : Captured) (s : Seen
 captured_of p without r s e = captured_by r s (is_left_out without r.number) (packet_in p.channels r.bytes) e
 
 module _ (p : Parameters) (without : List ℕ) (records : List Captured) (q : Captured) where
-  inside_push : (o : Option Seen) → seen_in p without q ≡ o → seen_inside p without (records ++ q ∷ []) ≡ seen_inside p without records ++ filter (is_inside p) (cons_option o [])
+  pub inside_push : (o : Option Seen) → seen_in p without q ≡ o → seen_inside p without (records ++ q ∷ []) ≡ seen_inside p without records ++ filter (is_inside p) (cons_option o [])
   inside_push o e = ap (filter (is_inside p)) (filter_map-append (seen_in p without) records (q ∷ []) ∙ ap (λ (o : Option Seen). all_seen p without records ++ cons_option o []) e)
       ∙ filter-append (is_inside p) (all_seen p without records) (cons_option o [])
 

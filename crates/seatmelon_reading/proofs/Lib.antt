@@ -1,6 +1,8 @@
 pub mod Alike
 pub mod Codes
+pub mod Crossed
 pub mod Filters
+pub mod Found
 pub mod Moments
 pub mod Neighbours
 pub mod Noted

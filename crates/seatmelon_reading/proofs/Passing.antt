@@ -6,8 +6,6 @@ use Rattle.std.proofs.lemmas.List.{length_push}
 use Rattle.std.proofs.lemmas.List.Elements.{All-nil, All-push, All-weaker}
 use Rattle.std.specs.Option.{ForSome}
 use Rattle.rasta_pcap.specs.declared.fault.Fault.{Fault}
-use Rattle.rasta_pcap.specs.declared.fault.Side.{Side}
-use Rattle.rasta_pcap.specs.declared.fault.Side.TheVariants.{Client, Server}
 use Rattle.rasta_pcap.specs.declared.pcap.Endianness.{Endianness}
 use Rattle.rasta_pcap.specs.declared.time.CaptureTime.{CaptureTime}
 use Rattle.rasta_pcap.specs.declared.time.FractionUnit.{FractionUnit}
@@ -21,24 +19,23 @@ use Rattle.rasta_pcap.proofs.Steps.{next-fault_place, next-is_next_entry, readin
 use Rattle.rasta_pcap.specs.Fault.{fault_at, no_memory, read_failed}
 use Rattle.rasta_pcap.specs.declared.stream.RecordReader.{RecordReader}
 use Rattle.rasta_pcap.specs.Stream.{FailsWithin, LacksMemory, MeetsEnd, Opens, ReadsRecord, RefusesHeader, RefusesRecord, count_in, order_in, room_in, unit_in}
-use Rattle.rasta_udp.specs.Frame.{Packet, packet_in}
+use Rattle.rasta_udp.specs.Frame.{packet_in}
 use Rattle.rasta_pdu.specs.Params.{Parameters}
-use Rattle.rasta_pdu.specs.Records.{at_record, recorded_packet}
-use Rattle.rasta_check.specs.Capture.SentLists.{FirstCopy}
+use Rattle.rasta_pdu.specs.Records.{at_record}
 use Rattle.rasta_check.specs.Capture.Crossing.{Crossing, nothing_crossed}
-use Rattle.rasta_check.specs.Capture.Reading.{after_found, after_packet, after_reading, after_record, after_records, then_crossing, crossing_with}
-use Rattle.rasta_check.specs.Capture.Reading as crossings
+use Rattle.rasta_check.specs.Capture.Reading.{after_found, after_reading, after_record, after_records, then_crossing}
 use Rattle.rasta_check.specs.Capture.Building.{crossed_in}
 use Rattle.rasta_check.specs.declared.passage.Passage.{Passage}
 use Rattle.seatmelon_reading.specs.Noted.{AreNotes, is_left_out, passage_seen, seen_in}
-use Rattle.seatmelon_reading.specs.Passing.{IsBegun, IsOnWay, IsPassed, IsThrough, ReaderOnWay, Whole, outcome_left, whole_of}
+use Rattle.seatmelon_reading.specs.Passing.{HasPassed, IsBegun, IsOnWay, IsPassed, IsThrough, ReaderOnWay, TellsNext, TellsStill, TellsTrue, Whole, outcome_left, whole_of}
+use Rattle.seatmelon_reading.proofs.Crossed.{record_params}
 use Rattle.seatmelon_reading.proofs.Stored.{stored_begun, stored_end, stored_next}
 use Rattle.seatmelon_reading.specs.Reading.{HasCrossed, IsSameBut, StaysOnceRefused, after_end, after_judged, after_next, reading_without, standing_in, standing_with}
 use Rattle.seatmelon_reading.specs.Window.{StandsSo}
 use Rattle.seatmelon_reading.specs.declared.capture_refusal.CaptureRefusal.{CaptureRefusal}
 use Rattle.seatmelon_reading.specs.declared.window.Standing.{Standing as Place}
 use Rattle.seatmelon_reading.specs.declared.window.Standing.TheVariants.{Before, Inside, Behind}
-use Rattle.seatmelon_reading.specs.Told.{AreBefore, AreLower, IsTrueOf, TellsNext, TellsStill, TellsTrue}
+use Rattle.seatmelon_reading.specs.Told.{AreLower, IsTrueOf}
 use Rattle.seatmelon_reading.specs.declared.notes.Notes.{Notes}
 use Rattle.seatmelon_reading.specs.declared.pass.Pass.{Pass}
 use Rattle.seatmelon_reading.proofs.Told.{true_as}
@@ -48,35 +45,6 @@ Standing = Result Crossing Fault
 
 abbrev ok : Crossing → Standing
 ok k = Ok k
-
--- ---- the parameters of what crosses stay
-
-same_crossing : (k n : Crossing) → ok k ≡ ok n → k ≡ n
-same_crossing k n e = cc
-
-with_params : (k : Crossing) (packet : Packet) (side : Side) (sent : List FirstCopy) → (crossing_with k packet side sent).params ≡ k.params
-with_params k packet Client sent = refl
-with_params k packet Server sent = refl
-
-within_params : (b : Bool) (k n : Crossing) (f : Fault) → cond b (ok k) (Err f) ≡ ok n → n.params ≡ k.params
-within_params true k n f e = ap (λ (c : Crossing). c.params) (sym (same_crossing k n e))
-within_params false k n f e = absurd cc
-
-judged_params : (o : Option ℕ) (k n : Crossing) (number : ℕ) (packet : Packet) → crossings.after_judged k number packet o ≡ ok n → n.params ≡ k.params
-judged_params (Some fault) k n number packet e = absurd cc
-judged_params None k n number packet e =
-    within_params (crossings.keeps_limits (crossings.with_packet k packet)) (crossings.with_packet k packet) n _ e
-    ∙ with_params k packet packet.side (crossings.sent_after k packet)
-
-frame_params : (found : Result (Option Packet) Fault) (k n : Crossing) (number : ℕ) → after_found k number found ≡ ok n → n.params ≡ k.params
-unfolding after_packet
-frame_params (Ok None) k n number e = ap (λ (c : Crossing). c.params) (sym (same_crossing k n e))
-frame_params (Ok (Some packet)) k n number e = judged_params _ k n number packet e
-frame_params (Err f) k n number e = absurd cc
-
-pub record_params : (k n : Crossing) (r : Numbered) → after_record k r ≡ Ok n → n.params ≡ k.params
-unfolding after_record
-record_params k n r e = frame_params (recorded_packet k.params r) k n r.0 e
 
 -- ---- where a record stands to the window
 
@@ -240,11 +208,18 @@ module _ (w : Whole) (order : Endianness) (unit : FractionUnit) (count : ℕ) (r
   true_before : TellsTrue old on.done
   true_before = true_as _ _ _ _ _ _ on.done old.refusal (sym on.zero) (sym on.params) (sym on.without) on.told
 
+  stored_before : HasCrossed old.params old.without.now on.done (crossed_in old.builder) old.refusal
+  stored_before = subst (λ (v : List ℕ). HasCrossed old.params v on.done (crossed_in old.builder) old.refusal) (sym on.without)
+      (subst (λ (p : Parameters). HasCrossed p w.without on.done (crossed_in old.builder) old.refusal) (sym on.params) on.stored)
+
   -- the records so far are those before the next
-  before_next : (number : ℕ) → number ≡ count + 1 → AreBefore number on.done
-  before_next number one = record {
-    count = (let counted = on.counted in omega (arith, one, counted));
+  passed_before : (place : ℕ) → place ≡ count + 1 → HasPassed old place on.done
+  passed_before place one = record {
+    noted = notes_before;
     lower = subst (λ n. AreLower n on.done) (sym (one ∙ add-one count)) on.lower;
+    stored = stored_before;
+    refused = λ r e. (let within = on.refused r e in omega (arith, one, within));
+    told = true_before;
   }
 
   pub passed_record : (r : Numbered) (time : Option CaptureTime) (input : Option (List ℕ)) → NextOf order unit count r time rest input
@@ -276,7 +251,7 @@ module _ (w : Whole) (order : Endianness) (unit : FractionUnit) (count : ℕ) (r
               ∙ ap (λ n. on.done ++ captured_from n unit c) less ∙ on.captured;
           noted = notes_as _ _ _ _ (on.done ++ q ∷ []) new.notes on.params on.without
               (noted on.done q notes_before refl (omega (arith, one, on.counted)) h.timed);
-          told = true_as _ _ _ _ _ _ (on.done ++ q ∷ []) new.refusal (untimed ∙ on.zero) (params ∙ on.params) (without ∙ on.without) (told on.done q notes_before (before_next r.0 one) true_before refl h.timed);
+          told = true_as _ _ _ _ _ _ (on.done ++ q ∷ []) new.refusal (untimed ∙ on.zero) (params ∙ on.params) (without ∙ on.without) (told on.done q (passed_before r.0 one) (let counted = on.counted in omega (arith, one, counted)) refl h.timed);
           lower = All-push (λ (x : Captured). x.number < suc r.0) on.done q
               (All-weaker (λ (x : Captured). x.number < suc count) (λ (x : Captured). x.number < suc r.0) (λ x below. omega (arith, one, below)) on.done on.lower)
               (omega arith);
@@ -312,7 +287,7 @@ module _ (w : Whole) (order : Endianness) (unit : FractionUnit) (count : ℕ) (r
         (subst (λ l. AreNotes w.params w.without l old.notes) (captured_all (captured_from-fault (max_records - count) unit (cursor_at order rest count) f is)) on.noted);
     told = λ r e. subst (λ l. IsTrueOf w.zero w.params w.without l r) (captured_all (captured_from-fault (max_records - count) unit (cursor_at order rest count) f is))
         (true_as _ _ _ _ _ _ on.done new.refusal (same_flag kept ∙ on.zero) (kept.params ∙ on.params) (kept.without ∙ on.without)
-        (still on.done notes_before (subst (λ n. AreLower n on.done) (sym (fault_place f (count + 1) (next-fault_place (cursor_at order rest count) f is) ∙ add-one count)) on.lower) true_before) r e);
+        (still on.done (passed_before f.place (fault_place f (count + 1) (next-fault_place (cursor_at order rest count) f is)))) r e);
     stored = subst (λ l. HasCrossed w.params w.without l (crossed_in new.builder) new.refusal) (captured_all (captured_from-fault (max_records - count) unit (cursor_at order rest count) f is))
         (stored_end w.params w.without on.done (crossed_in old.builder) (crossed_in new.builder) old.refusal new.refusal f
         (subst (λ n. AreLower n on.done) (sym (fault_place f (count + 1) (next-fault_place (cursor_at order rest count) f is) ∙ add-one count)) on.lower) on.stored
@@ -369,14 +344,21 @@ pub begun_refused : (file : List ℕ) (f : Fault) (old new : Pass) → IsBegun o
 unfolding after_records
 begun_refused file f old new h is standing kept still =
     let p = old.params in
-    let place : f.place ≡ 0 = fault_place f 0 (opening-fault_place file f is) in record {
+    let place : f.place ≡ 0 = fault_place f 0 (opening-fault_place file f is) in
+    let none_passed : HasPassed old f.place [] = record {
+      noted = h.noted;
+      lower = All-nil (λ (x : Captured). x.number < f.place);
+      stored = stored_begun p old.without.now (crossed_in old.builder) old.refusal h.standing;
+      refused = none_refused _ _ _ old.refusal h.standing;
+      told = none_refused _ _ _ old.refusal h.standing;
+    } in record {
       zero = same_flag kept;
       standing = standing ∙ ap (λ s. after_end p s f) h.standing ∙ ap (λ b. cond b (ok (nothing_crossed p)) (Err f)) (from p.last_record f.place (omega (arith, place)))
           ∙ ap (λ (g : captures.Reading). after_reading (nothing_crossed p) (reading_without old.without.now g)) (sym (reading_of-refused p.last_record file f is));
       noted = subst (λ (n : Notes). AreNotes p old.without.now (captured_in file) n) (sym kept.notes)
           (subst (λ l. AreNotes p old.without.now l old.notes) (sym (captured_in-refused file f is)) h.noted);
       told = λ r e. subst (λ l. IsTrueOf old.notes.zero_is_no_time p old.without.now l r) (sym (captured_in-refused file f is))
-          (true_as _ _ _ _ _ _ [] new.refusal (same_flag kept) kept.params kept.without (still [] h.noted (All-nil (λ (x : Captured). x.number < f.place)) (none_refused _ _ _ old.refusal h.standing)) r e);
+          (true_as _ _ _ _ _ _ [] new.refusal (same_flag kept) kept.params kept.without (still [] none_passed) r e);
       stored = subst (λ l. HasCrossed p old.without.now l (crossed_in new.builder) new.refusal) (sym (captured_in-refused file f is))
           (stored_end p old.without.now [] (crossed_in old.builder) (crossed_in new.builder) old.refusal new.refusal f (All-nil (λ (x : Captured). x.number < f.place))
           (stored_begun p old.without.now (crossed_in old.builder) old.refusal h.standing) standing kept.stays);

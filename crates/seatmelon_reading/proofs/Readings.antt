@@ -14,6 +14,7 @@ use Rattle.seatmelon_pcapng.specs.declared.format.Format.{Format}
 use Rattle.seatmelon_reading.specs.Noted.{AreNotes}
 use Rattle.seatmelon_reading.specs.Passing.{IsBegun, IsPassed}
 use Rattle.seatmelon_reading.specs.Reading.{HasCrossed, IsReading, crossing_without, standing_in, standing_with}
+use Rattle.seatmelon_reading.specs.Told.{due_of}
 use Rattle.seatmelon_reading.specs.declared.notes.Notes.{Notes}
 use Rattle.seatmelon_reading.specs.declared.pass.Pass.{Pass}
 use Rattle.seatmelon_reading.proofs.Told.{true_as}
@@ -45,6 +46,7 @@ made_of p without (Some file) start last store digest header format params left_
       noted = notes_with start.params p start.without.now without (captured_in capture) last.notes params left_out through.noted;
       untimed = through.zero ∙ untimed;
       told = true_as start.notes.zero_is_no_time (begins_pcapng file) start.params p start.without.now without (captured_in capture) last.refusal untimed params left_out through.told;
+      due = λ r e. last.due r e ∙ ap (λ (k : Crossing). due_of k r.fault) (sym is);
       summed = summed;
       header = headed;
       format = formed;

@@ -1,23 +1,52 @@
 -- The reading of a known file on its way.
-use Rattle.std.specs.Prelude.{◌≡◌, ℕ, suc, ◌-◌, ◌≤◌, List, [], ◌++◌, length, Bool, true, false, Option, Some, Result}
+use Rattle.std.specs.Prelude.{◌≡◌, ℕ, suc, ◌-◌, ◌<◌, ◌≤◌, List, [], ◌∷◌, ◌++◌, length, Bool, true, false, Option, Some, Result}
 use Rattle.std.specs.Prelude.{Ok, Err, ⊤}
 use Rattle.std.specs.Option.{ForSome}
 use Rattle.rasta_pcap.specs.declared.fault.Fault.{Fault}
 use Rattle.rasta_pcap.specs.declared.pcap.Endianness.{Endianness}
 use Rattle.rasta_pcap.specs.declared.stream.Progress.TheVariants.{Reading}
 use Rattle.rasta_pcap.specs.declared.stream.RecordReader.{RecordReader}
+use Rattle.rasta_pcap.specs.declared.time.CaptureTime.{CaptureTime}
 use Rattle.rasta_pcap.specs.declared.time.FractionUnit.{FractionUnit}
-use Rattle.rasta_pcap.specs.Capture.{cursor_at, max_records, reading}
-use Rattle.rasta_pcap.specs.Captured.{Captured, captured_from, captured_in}
+use Rattle.rasta_pcap.specs.Capture.{Numbered, cursor_at, max_records, reading}
+use Rattle.rasta_pcap.specs.Captured.{Captured, captured_from, captured_in, numbered}
 use Rattle.rasta_pcap.specs.Stream.{count_in, order_in, progress_of, unit_in}
 use Rattle.rasta_pdu.specs.Params.{Parameters}
 use Rattle.rasta_check.specs.Capture.Crossing.{Crossing, nothing_crossed}
 use Rattle.rasta_check.specs.Capture.Reading.{after_reading}
-use Rattle.seatmelon_reading.specs.Noted.{AreNotes}
+use Rattle.seatmelon_reading.specs.Noted.{AreNotes, is_left_out}
 use Rattle.rasta_check.specs.Capture.Building.{crossed_in}
 use Rattle.seatmelon_reading.specs.Reading.{HasCrossed, crossing_without, reading_without, standing_in}
 use Rattle.seatmelon_reading.specs.Told.{AreLower, IsTrueOf}
 use Rattle.seatmelon_reading.specs.declared.pass.Pass.{Pass}
+
+-- ---- what a refusal tells, record by record
+
+abbrev pub TellsTrue : Pass → List Captured → Type 0
+TellsTrue pass records = ForSome pass.refusal (IsTrueOf pass.notes.zero_is_no_time pass.params pass.without.now records)
+
+-- these records, all of them before this place, were passed
+pub record HasPassed (pass : Pass) (place : ℕ) (records : List Captured) : Type 0 where
+  pub noted : AreNotes pass.params pass.without.now records pass.notes
+  pub lower : AreLower place records
+  pub stored : HasCrossed pass.params pass.without.now records (crossed_in pass.builder) pass.refusal
+  pub refused : ForSome pass.refusal (λ r. r.fault.place < place)
+  pub told : TellsTrue pass records
+
+-- what was true of the records so far is true of one more, which was captured at this time
+abbrev pub TellsNext : Pass → Pass → Numbered → Option CaptureTime → Type 0
+TellsNext old new r time = (records : List Captured) (q : Captured) → HasPassed old r.0 records
+    → r.0 ≡ suc (length records) → numbered q ≡ r → time ≡ Some q.time → TellsTrue new (records ++ q ∷ [])
+
+-- of a record that stays
+abbrev pub TellsStaying : Pass → Pass → Numbered → Option CaptureTime → Type 0
+TellsStaying old new r time = is_left_out old.without.now r.0 ≡ false → TellsNext old new r time
+
+-- what was true of the records so far, all of them before this place, still is
+abbrev pub TellsStill : Pass → Pass → ℕ → Type 0
+TellsStill old new place = (records : List Captured) → HasPassed old place records → TellsTrue new records
+
+-- ---- a whole file
 
 -- what is to be read: whether a time of 0 is none, by these parameters, without these records, what crosses, and what
 -- was captured

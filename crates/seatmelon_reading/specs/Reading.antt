@@ -19,7 +19,7 @@ use Rattle.seatmelon_reading.specs.Noted.{AreNotes, is_left_out}
 use Rattle.seatmelon_reading.specs.declared.capture_refusal.CaptureRefusal.{CaptureRefusal}
 use Rattle.seatmelon_reading.specs.declared.pass.Pass.{Pass}
 use Rattle.seatmelon_reading.specs.declared.reading.Reading.{Reading}
-use Rattle.seatmelon_reading.specs.Told.{IsTrueOf}
+use Rattle.seatmelon_reading.specs.Told.{IsTrueOf, due_of}
 
 -- the records that stay
 abbrev pub stays : List ℕ → Numbered → Bool
@@ -96,6 +96,7 @@ pub record IsReading (p : Parameters) (without file : List ℕ) (r : Reading) : 
   pub noted : AreNotes p without (captured_in (capture_of file)) r.notes
   pub untimed : r.notes.zero_is_no_time ≡ begins_pcapng file
   pub told : ForSome r.refusal (IsTrueOf (begins_pcapng file) p without (captured_in (capture_of file)))
+  pub due : ForSome r.refusal (λ f. f.next_number ≡ due_of r.store f.fault)
   pub summed : r.digest ≡ sha256 file
   pub header : r.header ≡ header_in (take 24 file)
   pub format : r.format ≡ format_of file

@@ -1,10 +1,11 @@
 //! Why a capture is refused, and what its other packets say of the refused one.
-ghost use Rattle.std.specs.Prelude.{◌≡◌, ◌⊎◌, ◌<◌, ◌^◌, Some, IfErr, IfOk, OnOk};
-ghost use Rattle.std.specs.List.{Contains};
+ghost use Rattle.std.specs.Prelude.{◌≡◌, ◌⊎◌, ◌<◌, ◌^◌, Some, IfErr, IfOk, IfSome, IsSomeAnd};
 ghost use Rattle.std.specs.Option.{ForSome};
 ghost use Rattle.rasta_pcap.specs.Fault.{no_memory};
 ghost use Rattle.rasta_udp.specs.Frame.{packet_of};
+ghost use Rattle.rasta_check.specs.Capture.Crossing.{sent_by};
 ghost use Rattle.seatmelon_reading.specs.Codes.{codes_next};
+ghost use Rattle.seatmelon_reading.specs.Told.{HasBeenFound, due_of, number_due};
 
 use crate::code_count::CodeCount;
 use crate::notes::{Notes, Sighting};
@@ -55,7 +56,9 @@ pub struct CaptureRefusal {
 }
 
 // What an end sent.
-fn list_of(store: &Store, side: Side) -> SpanList<'_> {
+fn list_of(store: &Store, side: Side) -> SpanList<'_>
+    ensures { result ≡ sent_by store.now side }
+{
     match side {
         Side::Client => store.client(),
         Side::Server => store.server(),
@@ -73,21 +76,18 @@ fn copied(alloc: Global, bytes: &[u8]) -> Result<Vec<u8>, Fault>
 }
 
 // The number that an end was to use next, after what crossed; none where it sent nothing.
-fn next_number(list: &SpanList<'_>) -> Option<u32> {
+fn next_number(list: &SpanList<'_>) -> Option<u32>
+    ensures { result ≡ number_due list.now }
+{
     let (_, first) = list.get(0)?;
     Some(first.number().wrapping_add(list.len()))
 }
 
-// The packet that a fault which speaks of an end asks for: after a gap the one that was due, else the one with the
-// number of the refused packet.
-fn wanted_packet(params: &Params, fault: Fault, frame: &[u8], next: Option<u32>) -> Option<Wanted> {
-    let side = fault.end?;
-    let packet = datagram_in(frame, params.channel()).ok()??;
-    let number = match fault.number {
-        Fault::NUMBER_GAP => next?,
-        _ => Fields::of(packet.payload).number?,
-    };
-    Some(Wanted { side, number })
+// That of the end of which a fault speaks.
+fn due_of(store: &Store, fault: Fault) -> Option<u32>
+    ensures { result ≡ due_of store.now fault }
+{
+    next_number(&list_of(store, fault.end?))
 }
 
 // The first copy that crossed with the number that is asked for.
@@ -97,7 +97,7 @@ fn packet_beside(
     notes: &Notes,
     wanted: Wanted,
 ) -> Result<Option<Beside>, Fault>
-    ensures noted { IfOk result (λ o. ForSome o (λ b. Contains notes.now.packets.items b.sighting)) }
+    ensures found { IfOk result (λ o. ForSome o (HasBeenFound store.now notes.now.packets.items wanted)) }
     ensures err { IfErr result (λ f. f ≡ no_memory) }
 {
     let Some(position) = list_of(store, wanted.side).position_of(wanted.number) else {
@@ -116,7 +116,7 @@ fn packet_beside(
 }
 
 impl CaptureRefusal {
-    ghost use Rattle.seatmelon_reading.specs.Told.{IsMadeOf};
+    ghost use Rattle.seatmelon_reading.specs.Told.{IsAskedFor, IsFound, IsMadeOf, IsSameRefusal};
 
     /// Of a record with these bytes, of which this time was read, if it was read whole, after what crossed before it.
     ///
@@ -130,25 +130,37 @@ impl CaptureRefusal {
         frame: &[u8],
         time: Option<CaptureTime>,
     ) -> Result<CaptureRefusal, Fault>
-        ensures made { IfOk result (IsMadeOf params.now fault frame.now time notes.now) }
+        ensures made { IfOk result (IsMadeOf params.now store.now fault frame.now time notes.now) }
         ensures err { IfErr result (λ f. f ≡ no_memory) }
     {
-        let next = fault
-            .end
-            .and_then(|side| next_number(&list_of(store, side)));
         let mut refusal = CaptureRefusal {
             fault,
             frame: copied(alloc, frame)?,
             time: time_told(notes.zero_is_no_time, time),
             codes: CodeCount::of_record(params, frame, time),
-            next_number: next,
+            next_number: due_of(store, fault),
             beside: None,
-            wanted: wanted_packet(params, fault, frame, next),
+            wanted: None,
         };
-        if let Some(wanted) = refusal.wanted {
+        if let Some(wanted) = refusal.asks_for(params) {
+            refusal.wanted = Some(wanted);
             refusal.beside = packet_beside(alloc, store, notes, wanted)?;
         }
         Ok(refusal)
+    }
+
+    // The packet that a fault which speaks of an end asks for: after a gap the one that was due, else the one with the
+    // number of the refused packet.
+    fn asks_for(&self, params: &Params) -> Option<Wanted>
+        ensures { IfSome result (IsAskedFor params.now self.now) }
+    {
+        let side = self.fault.end?;
+        let packet = datagram_in(&self.frame, params.channel()).ok()??;
+        let number = match self.fault.number {
+            Fault::NUMBER_GAP => self.next_number?,
+            _ => Fields::of(packet.payload).number?,
+        };
+        Some(Wanted { side, number })
     }
 
     /// Looks at a packet of the connection behind the refused record: at its safety code, and whether it is the one that
@@ -162,8 +174,9 @@ impl CaptureRefusal {
         sighting: Sighting,
         packet: &Datagram<'_>,
     ) -> Result<(), Fault>
-        ensures kept { (self.new.fault ≡ self.old.fault) × (self.new.frame.items ≡ self.old.frame.items) × (self.new.time ≡ self.old.time) }
-        ensures beside { ForSome self.new.beside (λ b. (self.old.beside ≡ Some b) ⊎ (b.sighting ≡ sighting)) }
+        ensures kept { IsSameRefusal self.old self.new }
+        ensures beside { ForSome self.new.beside (λ b. (self.old.beside ≡ Some b)
+            ⊎ IsSomeAnd self.old.wanted (λ wanted. IsFound wanted sighting (packet_of packet.now) b)) }
         ensures codes { self.old.codes.judged < 2 ^ 32 → self.old.codes.fitting < 2 ^ 32
             → self.new.codes ≡ codes_next params.now self.old.fault.place sighting.«record» (packet_of packet.now) self.old.codes }
         ensures err { IfErr result (λ f. f ≡ no_memory) }
@@ -182,9 +195,10 @@ impl CaptureRefusal {
         sighting: Sighting,
         packet: &Datagram<'_>,
     ) -> Result<(), Fault>
-        ensures kept { (self.new.fault ≡ self.old.fault) × (self.new.frame.items ≡ self.old.frame.items) × (self.new.time ≡ self.old.time)
-            × (self.new.codes ≡ self.old.codes) }
-        ensures beside { ForSome self.new.beside (λ b. (self.old.beside ≡ Some b) ⊎ (b.sighting ≡ sighting)) }
+        ensures kept { IsSameRefusal self.old self.new }
+        ensures codes { self.new.codes ≡ self.old.codes }
+        ensures beside { ForSome self.new.beside (λ b. (self.old.beside ≡ Some b)
+            ⊎ IsSomeAnd self.old.wanted (λ wanted. IsFound wanted sighting (packet_of packet.now) b)) }
         ensures err { IfErr result (λ f. f ≡ no_memory) }
     {
         let Some(wanted) = self.wanted else {

@@ -10,6 +10,7 @@ ghost use Rattle.rasta_check.specs.Capture.Passages as passages;
 ghost use Rattle.rasta_check.specs.Capture.Crossing.{nothing_crossed};
 ghost use Rattle.rasta_check.specs.Capture.Reading.{packet_found};
 ghost use Rattle.seatmelon_reading.specs.Noted.{AreNotes, passage_seen, seen_in};
+ghost use Rattle.seatmelon_reading.specs.Told.{IsAskedFor, due_of};
 
 use crate::capture_refusal::CaptureRefusal;
 use crate::frames::packet;
@@ -33,6 +34,8 @@ pub struct Pass<'a> {
     ghost window: { IsWindow params.first_record params.last_record },
     ghost recorded: { (crossed_in builder).params ≡ params },
     ghost told: { ForSome refusal (λ r. (r.fault ≢ no_memory) × (r.fault ≢ read_failed)) },
+    ghost due: { ForSome refusal (λ r. r.next_number ≡ due_of (crossed_in builder) r.fault) },
+    ghost wanted: { ForSome refusal (λ r. ForSome r.wanted (IsAskedFor params r)) },
 }
 
 // Where the packet of a record crossed, if it holds one of the recorded channels.
@@ -45,7 +48,8 @@ fn passage_in(params: &Params, record: &Record<'_>) -> Option<Passage>
 
 impl<'a> Pass<'a> {
     ghost use Rattle.seatmelon_reading.specs.Reading.{IsSameBut, StaysOnceRefused, after_end, after_judged, after_next, standing_in};
-    ghost use Rattle.seatmelon_reading.specs.Told.{IsMadeOf, TellsNext, TellsStaying, TellsStill};
+    ghost use Rattle.seatmelon_reading.specs.Passing.{TellsNext, TellsStaying, TellsStill};
+    ghost use Rattle.seatmelon_reading.specs.Told.{IsMadeOf};
 
     /// Before the first record.
     pub fn new(
@@ -79,7 +83,7 @@ impl<'a> Pass<'a> {
         time: Option<CaptureTime>,
     ) -> Result<(), Fault>
         ensures standing { OnOk result (standing_in self.new ≡ Err fault) }
-        ensures made { OnOk result (ForSome self.new.refusal (IsMadeOf self.old.params fault frame.now time self.old.notes)) }
+        ensures made { OnOk result (ForSome self.new.refusal (IsMadeOf self.old.params (crossed_in self.old.builder) fault frame.now time self.old.notes)) }
         ensures told { OnOk result ((fault ≢ no_memory) × (fault ≢ read_failed)) }
         ensures kept { IsSameBut self.old self.new }
         ensures err { IfErr result (λ f. (f ≡ no_memory) ⊎ (f ≡ read_failed)) }

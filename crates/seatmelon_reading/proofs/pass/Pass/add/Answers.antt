@@ -13,6 +13,6 @@ returns-clause-noted c = IfOk-weaker c.note.result _ _
     c.note.ensures.noted
 
 pub returns-clause-told : goal.returns-clause-told
-returns-clause-told c = where_succeeded c.note.result (λ records q noted before was is timed.
+returns-clause-told c = where_succeeded c.note.result (λ records q passed count is timed.
     true_as _ _ _ _ _ _ (records ++ q ∷ []) c.pass_next.new.self.refusal (sym c.note.ensures.kept) refl refl
-    (c.in_ok-passage.ensures.told records q noted before was is timed))
+    (c.in_ok-passage.ensures.told records q passed count is timed))
