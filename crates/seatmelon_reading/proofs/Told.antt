@@ -401,15 +401,6 @@ true_as z y p q v w records o d e f h = λ r is.
 one_refusal : (a b : CaptureRefusal) → ◌≡◌ {A = Option CaptureRefusal} (Some a) (Some b) → a ≡ b
 one_refusal a b e = cc
 
-pub made_due : (p : Parameters) (k : Crossing) (f : Fault) (bytes : List ℕ) (time : Option CaptureTime) (notes : Notes) (r : CaptureRefusal) → IsMadeOf p k f bytes time notes r
-    → ForSome (Some r) (λ (x : CaptureRefusal). x.next_number ≡ due_of k x.fault)
-made_due p k f bytes time notes r made x e =
-    subst (λ (y : CaptureRefusal). y.next_number ≡ due_of k y.fault) (one_refusal r x e) (made.due ∙ ap (due_of k) (sym made.fault))
-
-pub made_wanted : (p : Parameters) (k : Crossing) (f : Fault) (bytes : List ℕ) (time : Option CaptureTime) (notes : Notes) (r : CaptureRefusal) → IsMadeOf p k f bytes time notes r
-    → ForSome (Some r) (λ (x : CaptureRefusal). ForSome x.wanted (IsAskedFor p x))
-made_wanted p k f bytes time notes r made x e = subst (λ (y : CaptureRefusal). ForSome y.wanted (IsAskedFor p y)) (one_refusal r x e) made.wanted
-
 pub same_due : (k : Crossing) (o : Option CaptureRefusal) (old new : CaptureRefusal) → o ≡ Some old → IsSameRefusal old new
     → ForSome o (λ (x : CaptureRefusal). x.next_number ≡ due_of k x.fault) → ForSome (Some new) (λ (x : CaptureRefusal). x.next_number ≡ due_of k x.fault)
 same_due k o old new is same due x e =
