@@ -10,8 +10,9 @@ kit's line (`rt version`), and the commands by which anyone checks it again. It 
 The programs are those that `rt run` leaves in crates/rasta_audit and crates/seatmelon, or else those on the path.
 Where there is a seatmelon, the page has the times of the records too, how many packets of the recorded channels lie
 outside the window, if one is recorded, and of a gap (28) the numbers due and found; with --suppose also what explains
-the packets if the tap missed at most N PDUs, which the page draws dashed. With --places the page shows the packets at
-these places alone, until its filter is changed.
+the packets if the tap missed at most N PDUs, which the page draws dashed. Where it contradicts the answer, the page says
+so and has nothing of it. A pcapng file is converted by it first (`seatmelon convert`), and the page names both files.
+With --places the page shows the packets at these places alone, until its filter is changed.
 
 The exit status is that of the answer: 0 where the packets are explained, 1 where something is refused or no packet is
 of the connection, 2 where the parameters are refused, 3 where memory, reading or writing failed. It is 2 too, with no
@@ -37,6 +38,8 @@ except ImportError:  # before Python 3.11
 HERE = pathlib.Path(__file__).resolve().parent
 TOP = HERE.parent
 NOTHING = '<div id="report-data" hidden><!--null--></div>'
+
+CONTRADICTED = "What seatmelon explain says of these files contradicts the answer of rasta_audit, so nothing of it is on this page."
 
 # A line of `seatmelon show`: the number of the record and its time.
 LISTED = re.compile(rb" *([0-9]+)  ([0-9-]{10} [0-9:]{8}[.][0-9]+) ")
@@ -85,6 +88,23 @@ def words_of_command_line():
     if words.suppose and not words.seatmelon.is_file():
         asked.error(f"--suppose wants seatmelon, and {words.seatmelon} is no file")
     return words
+
+
+def is_pcapng(capture):
+    with open(capture, "rb") as file:
+        return file.read(4) == b"\x0a\x0d\x0d\x0a"
+
+
+def classic_capture(asked, folder):
+    """The capture as rasta_audit reads it: of a pcapng file what `seatmelon convert` makes of it, where that is there."""
+    if not is_pcapng(asked.capture) or not asked.seatmelon.is_file():
+        return asked.capture
+    call = subprocess.run([asked.seatmelon.resolve(), "convert", "--", asked.capture], capture_output=True)
+    if not call.stdout:
+        return asked.capture
+    path = folder / f"{asked.capture.stem}.pcap"
+    path.write_bytes(call.stdout)
+    return path
 
 
 def sum_of(path):
@@ -158,11 +178,34 @@ def explanation_of(seatmelon, capture, parameters, certificate, suppose):
         return {}
 
 
+REFUSED = ("refused", "explained_with_supposed_pdus")
+
+
+def verdict_in(explanation):
+    """What an explanation says, as the first words of the text of `audit` would say it."""
+    if explanation.get("verdict") in REFUSED:
+        fault = explanation.get("fault") or {}
+        return f"refused {fault.get('number')} {fault.get('name')} "
+    packets = explanation.get("packets_explained") if explanation.get("verdict") == "explained" else 0
+    return f"explained {packets}\n"
+
+
+def contradicts(explanation, verdict):
+    """Whether an explanation tells another verdict than the answer: another kind or number, other packets or another record."""
+    said = decoded(verdict)
+    if not said.startswith(verdict_in(explanation)):
+        return True
+    record = (explanation.get("record") or {}).get("record")
+    words = said.split()
+    is_of_record = words[0] == "refused" and (14 <= int(words[1]) <= 28)
+    return is_of_record and record is not None and int(words[3]) != record
+
+
 def refusal_in(explanation):
-    """The refused record, and what is wrong with it, where a capture is refused."""
-    if explanation.get("verdict") not in ("refused", "explained_with_supposed_pdus"):
+    """The refused record, what it holds and what is wrong with it, where a capture is refused."""
+    if explanation.get("verdict") not in REFUSED:
         return None
-    return {"record": explanation.get("record"), "trouble": explanation.get("trouble")}
+    return {key: explanation.get(key) for key in ("record", "packet", "trouble")}
 
 
 def supposition_in(explanation):
@@ -185,49 +228,72 @@ def times_of(seatmelon, capture, parameters):
     return [[int(one[1]), one[2].decode()] for one in found if one]
 
 
-def commands_for(asked, certificate):
+def commands_for(asked, capture, certificate):
+    """What anyone runs to come to the same answer; a capture that was converted is converted first."""
     program, seatmelon = asked.program, asked.seatmelon
-    files = [path.name for path in (asked.capture, asked.parameters, certificate) if path]
-    programs = [program.name, *([seatmelon.name] if asked.suppose else [])]
+    is_converted = capture != asked.capture
+    files = [path.name for path in (capture, asked.parameters, certificate) if path]
+    programs = [program.name, *([seatmelon.name] if asked.suppose or is_converted else [])]
     command = "check" if certificate else "audit"
-    commands = [["sha256sum", *programs, *files], [f"./{program.name}", command, *files]]
+    sums = ["sha256sum", *programs, *([asked.capture.name] if is_converted else []), *files]
+    commands = [shlex.join(sums), shlex.join([f"./{program.name}", command, *files])]
+    if is_converted:
+        convert = shlex.join([f"./{seatmelon.name}", "convert", asked.capture.name])
+        commands.insert(0, f"{convert} > {shlex.quote(capture.name)}")
     if asked.suppose:
-        commands.append([f"./{seatmelon.name}", "explain", "--suppose", str(asked.suppose), *files[:2]])
-    return [shlex.join(words) for words in commands]
+        commands.append(shlex.join([f"./{seatmelon.name}", "explain", "--suppose", str(asked.suppose), *files[:2]]))
+    return commands
+
+
+def files_of(asked, capture, certificate):
+    """The files that the page names with their sums."""
+    is_converted = capture != asked.capture
+    programs = [asked.program, *([asked.seatmelon] if asked.suppose or is_converted else [])]
+    roles = [*(("program", path) for path in programs), ("capture", asked.capture)]
+    roles += [("converted", capture)] if is_converted else []
+    roles += [("parameters", asked.parameters), *([("certificate", certificate)] if certificate else [])]
+    return [described(role, path) for role, path in roles]
 
 
 def report_of(asked, folder):
-    program, capture, parameters = asked.program, asked.capture, asked.parameters
+    program, parameters = asked.program, asked.parameters
+    capture = classic_capture(asked, folder)
     certificate = asked.certificate or built_certificate(program, capture, parameters, folder)
     by_certificate = ("check", capture, parameters, certificate)
     status, verdict = answer_of(program, *(by_certificate if certificate else ("audit", capture, parameters)))
     explanation = explanation_of(asked.seatmelon, capture, parameters, asked.certificate, asked.suppose)
+    is_contradicted = bool(explanation) and contradicts(explanation, verdict)
+    if is_contradicted:
+        explanation = {}
     texts = [
         ("verdict", f"{capture.stem}.answer.txt", verdict),
         ("parameters", parameters.name, parameters.read_bytes()),
     ]
-    files = [described("program", program), described("capture", capture), described("parameters", parameters)]
-    if asked.suppose:
-        files.insert(1, described("program", asked.seatmelon))
     if certificate:
         texts.append(("certificate", certificate.name, certificate.read_bytes()))
-        files.append(described("certificate", certificate))
     if not asked.without_show:
         texts.append(("show", f"{capture.stem}.show.txt", answer_of(program, "show", capture, parameters)[1]))
     report = {
-        "title": capture.name,
-        "files": files,
+        "title": asked.capture.name,
+        "files": files_of(asked, capture, certificate),
+        "converted": {"from": asked.capture.name, "to": capture.name} if capture != asked.capture else None,
+        "notices": [CONTRADICTED] if is_contradicted else [],
         "kit": kit_line(),
-        "commands": commands_for(asked, certificate),
+        "commands": commands_for(asked, capture, certificate),
         "connection": connection_in(decoded(parameters.read_bytes())),
         "window": explanation.get("window"),
         "refusal": refusal_in(explanation),
         "supposed": supposition_in(explanation),
-        "times": times_of(asked.seatmelon, capture, parameters),
+        "times": [] if is_contradicted else times_of(asked.seatmelon, capture, parameters),
         "places": asked.places,
-        "texts": [{"kind": kind, "name": name, "text": decoded(data)} for kind, name, data in texts],
+        "texts": [text_of(kind, name, decoded(data)) for kind, name, data in texts],
     }
     return status_of(status, verdict), report
+
+
+def text_of(kind, name, text):
+    """A text with its sum, by which the page finds that it was changed."""
+    return {"kind": kind, "name": name, "text": text, "sha256": hashlib.sha256(text.encode()).hexdigest()}
 
 
 def status_of(status, verdict):

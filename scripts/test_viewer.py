@@ -34,6 +34,7 @@ import xml.etree.ElementTree
 
 import random_runs
 from headless import Browser, Refused
+from pdf_pages import pages_of
 
 TOP = pathlib.Path(__file__).resolve().parent.parent
 PAGE = TOP / "viewer/index.html"
@@ -227,14 +228,20 @@ class Sight:
     def shot(self, name, whole=False):
         self.page.screenshot(self.stage.folder / f"{name}.png", whole)
 
+    def printed(self, name):
+        """The texts of the pages that are printed, without white space."""
+        path = self.stage.folder / f"{name}.pdf"
+        self.page.pdf(path)
+        return pages_of(path.read_bytes())
+
     def expect_drawn(self, **wanted):
         """Arrows that are truly drawn, of a chart that is short enough to be printed whole."""
         kinds = self.act(
             "fillPrinted(); const kinds = Array.from(document.querySelectorAll('#printed g[data-kind]'), (g) => g.dataset.kind);"
-            "const rows = document.querySelectorAll('#printed tbody tr').length; emptyPrinted(); ({kinds, rows})"
+            "const rows = document.querySelectorAll('#printed table:not(.lines) tbody tr').length; emptyPrinted(); ({kinds, rows})"
         )
         drawn = {"takes": kinds["kinds"].count("0"), "copies": kinds["kinds"].count("2")}
-        drawn["makes"] = len(kinds["kinds"]) - drawn["takes"] - drawn["copies"] - kinds["kinds"].count("4")
+        drawn["makes"] = sum(kind in ("1", "3") for kind in kinds["kinds"])
         drawn["messages"] = kinds["rows"]
         for key, value in wanted.items():
             expect_equal(drawn[key], value, f"{key} drawn")
@@ -573,7 +580,7 @@ def other_capture(stage):
     _, shown = sample_texts(stage, "both_ask")
     with stage.texts(answer=answer, shown=shown) as sight:
         sight.expect_counts(verdict="explained", notices=1, **counts_of_answer(answer))
-        expect("not of the same capture" in sight.text("#notices"), "the difference isn't told")
+        expect("doesn't belong to the answer" in sight.text("#notices"), "the difference isn't told")
         sight.shot("other_capture")
 
 
@@ -846,7 +853,9 @@ def window_is_told(stage):
         sight.shot("window")
     answer, shown = sample_texts(stage, "retransmission")
     with stage.texts(answer=answer, shown=shown, parameters=with_keys("retransmission", first_record=1, last_record=12)) as sight:
-        expect("Judged were only records 1 to 12 of the capture" in sight.text("#verdict"), "the window isn't told")
+        said = sight.text("#verdict")
+        expect("which was brought beside it, records a window: records 1 to 12 of the capture." in said, "the window isn't told")
+        expect("exactly these 12 packets," in said, "the sentence names a window that need not be the answer's")
 
 
 # What stands in for seatmelon: the answer of `explain --json` to a gap, and the times of `show`.
@@ -857,7 +866,8 @@ if [ "$1" = show ]; then
         echo "      $record  2026-01-01 00:00:00.0${record}000        1  client"
     done
 else
-    echo '{"verdict":"refused","window":null,"record":{"record":9,"time":"2026-01-01 00:00:00.009000 UTC"},
+    echo '{"verdict":"refused","window":null,"fault":{"number":28,"name":"NumberGap"},
+"record":{"record":7,"time":"2026-01-01 00:00:00.007000 UTC"},
 "trouble":{"number_due":41,"number_found":4294967290,"crosses_later":{"record":12,"time":"2026-01-01 00:00:01.000000 UTC","channel":1}}}'
 fi
 """
@@ -889,6 +899,7 @@ def supposed(kind, name, record):
 def stand_in_with(stage, supposition):
     """A program that says so of a gap before record 7."""
     answer = {"verdict": "explained_with_supposed_pdus" if supposition["fillings"] else "refused", "window": None, "record": None}
+    answer["fault"] = {"number": 28, "name": "NumberGap"}
     program = stage.file("stand_in", f"#!/bin/sh\ncat <<'END'\n{json.dumps({**answer, 'trouble': None, 'supposed': supposition})}\nEND\n")
     program.chmod(0o755)
     return program
@@ -998,8 +1009,492 @@ def ten_digits(stage):
         sight.shot("ten_digits")
 
 
+# ---- stories: what several files together are taken for
+
+
+def expected(name):
+    return (EXAMPLES / "expected" / name).read_text()
+
+
+def told(sight, *words):
+    """Each of these words is on the page."""
+    said = sight.text("body")
+    for part in words:
+        expect(part in said, f"not told: {part}: {said[:400]}")
+
+
+def expect_alone(sight):
+    """Nothing is on the page of what was there before: no report, window or text."""
+    expect(sight.act("byId('report').hidden"), "the files of the report are still listed")
+    expect_equal(sight.act("state.report"), None, "the report")
+
+
+def answer_beside_report(stage):
+    """Another answer, added to a report, begins anew: title, files, window and texts of the report go."""
+    capture = EXAMPLES / "missing_packet.pcap"
+    answer = stage.file("other.answer.txt", expected("retransmission.check.txt"))
+    with stage.report(capture, capture.with_suffix(".toml")) as sight:
+        sight.choose(answer)
+        sight.expect_counts(verdict="explained", packets=12, takenByServer=5)
+        for what in ("document.title", "document.querySelector('h1').textContent"):
+            title = sight.act(what)
+            expect("missing_packet" not in title and "other.answer.txt" in title, f"the title: {title}")
+        told(sight, "The report about missing_packet.pcap is put away", "other.answer.txt")
+        expect_alone(sight)
+        expect_equal(sight.act("state.brought.map(({kind}) => kind)"), ["verdict"], "texts")
+        pages = sight.printed("answer_beside_report")
+        expect("thereportaboutmissing_packet.pcapisputaway" in "".join(pages).lower(), "the print doesn't say it")
+        sight.shot("answer_beside_report")
+
+
+def three_answers(stage):
+    """Of three answers none is drawn before one is chosen; a refusal among them is listed, with each name, on paper too."""
+    files = [stage.file(f"{name}.answer.txt", expected(f"{name}.{kind}.txt")) for name, kind in (
+        ("retransmission", "check"), ("missing_packet", "audit"), ("both_ask", "check"))]  # fmt: skip
+    shown = [stage.file(f"{name}.show.txt", expected(f"{name}.txt")) for name in ("both_ask", "missing_packet")]
+    gists = ("explained 12", "refused 28 NumberGap 7 client", "explained 17")
+    with stage.viewer(*files, *shown) as sight:
+        sight.expect_counts(verdict="", packets=0)
+        told(sight, "3 answers", "nothing is drawn until one is chosen", *gists, *(path.name for path in files))
+        sight.shot("three_answers")
+        printed = "".join(sight.printed("three_answers"))
+        for words in (*gists, *(path.name for path in files)):
+            expect("".join(words.split()) in printed, f"not printed: {words}")
+        for name, verdict in (("missing_packet", "refused"), ("both_ask", "explained"), ("retransmission", "explained")):
+            sight.act(f"Array.from(document.querySelectorAll('#brought tr')).find((row) => row.innerText.startsWith('{name}.answer'))"
+                      ".querySelector('button').click()")  # fmt: skip
+            sight.expect_counts(verdict=verdict, notices=0)
+            told(sight, *gists, *(path.name for path in files))
+            shows = sight.act("state.texts.show?.name ?? null")
+            expect_equal(shows, None if name == "retransmission" else f"{name}.show.txt", "the listing beside it")
+            expect(f"{name}.answer.txt" in sight.act("document.title"), "the title")
+
+
+def foreign_parameters(stage):
+    """A parameter file beside an answer isn't said to be its own; where it contradicts the answer, that is said."""
+    answer, shown = expected("retransmission.check.txt"), expected("retransmission.txt")
+    window = with_keys("retransmission", last_record=9)
+    with stage.texts(answer=answer, window=window) as sight:
+        told(sight, "window.txt doesn't belong to the answer: its window has 9 records, and the answer speaks of 12 packets")
+        expect("records 1 to 9" not in sight.text("#verdict"), "the window is told of the answer")
+        sight.shot("foreign_parameters")
+    with stage.texts(answer=answer, parameters=with_keys("retransmission", last_record=400)) as sight:
+        sight.expect_counts(notices=0)
+        told(sight, "which was brought beside it, records a window: records 1 to 400 of the capture.")
+        sight.choose(stage.file("both_ask.answer.txt", expected("both_ask.check.txt")))
+        expect("records a window" not in sight.text("body"), "the window of an earlier answer stays")
+    for name, parameters, words in (
+        ("late", with_keys("retransmission", first_record=4), "its window is the records from 4 on, and a packet is in record 1"),
+        ("codes", with_keys("retransmission", code_length=8), "it records safety codes of 8 bytes, and those of the packets have 16 bytes"),
+        ("checks", with_keys("retransmission", check_length=0), "it records check codes of no bytes, and those of the packets have 4 bytes"),
+    ):
+        with stage.texts(answer=answer, shown=shown, **{name: parameters}) as sight:
+            told(sight, f"{name}.txt doesn't belong to the answer: {words}")
+            sight.expect_counts(notices=1)
+    refused = "refused 28 NumberGap 7 client\n"
+    with stage.texts(answer=refused, early=with_keys("retransmission", last_record=6)) as sight:
+        told(sight, "its window is records 1 to 6, and record 7 is refused")
+
+
+# A refusal, the sample whose listing lies beside it, and why the two can't be of the same files.
+FOREIGN = [
+    ("refused 60 NotFound 99 -", "missing_packet", "it has 11 packets, and the answer refuses the one at place 98"),
+    ("refused 28 NumberGap 99 client", "missing_packet", "it has no packet in record 99, which the answer refuses"),
+    ("refused 28 NumberGap 6 client", "missing_packet", "its record 6 was sent by the server, and the answer refuses one of the client"),
+    ("refused 28 NumberGap 7 client", "retransmission", "the number of its record 7 is the next one"),
+    ("refused 27 CopyDiffers 7 client", "retransmission", "the number of its record 7 didn't cross before"),
+    ("refused 25 Code 5 client", "retransmission", "it ends with packets 12, and the answer is refused 25 Code 5 client"),
+    ("refused 25 Code 5 client", "flipped_bit", "it ends with refused 25 Code 8 client, and the answer is refused 25 Code 5 client"),
+    ("refused 28 NumberGap 9 client", "flipped_bit", "it ends with refused 25 Code 8 client, which the answer would name first"),
+    ("refused 51 MissingKey 7 -", "retransmission", "where the parameters are refused nothing is listed"),
+    ("explained 0\ntaken by client 0\ntaken by server 0", "retransmission", "it has 12 packets and the answer 0"),
+]
+
+
+def foreign_listing(stage):
+    """A refusal is drawn in no listing that contradicts it."""
+    for line, sample_name, words in FOREIGN:
+        with stage.texts(answer=f"{line}\n", shown=expected(f"{sample_name}.txt")) as sight:
+            told(sight, f"shown.txt doesn't belong to the answer: {words}. It is left aside, and nothing is drawn from both.")
+            sight.expect_counts(notices=1, packets=0)
+    with stage.texts(answer="refused 28 NumberGap 7 client\n", shown=expected("missing_packet.txt")) as sight:
+        sight.expect_counts(notices=0, packets=11)
+        expect_equal(sight.act("state.chart.story.mark.packet"), 6, "the framed packet")
+
+
+def foreign_certificate(stage):
+    """A certificate of another run is told, and left aside."""
+    certificates = {name: (EXAMPLES / f"{name}.cert").read_text() for name in ("retransmission", "both_ask")}
+    answer, shown = expected("retransmission.check.txt"), expected("retransmission.txt")
+    with stage.texts(answer=answer, own=certificates["retransmission"]) as sight:
+        sight.expect_counts(notices=0)
+    for line, name, words in (
+        (answer, "both_ask", "script isn't in the run of the answer"),
+        ("refused 41 NotAllowed 99 client\n", "retransmission", "entries, and the answer refuses entry 99"),
+        ("refused 34 NotYetCrossed 1 client\n", "retransmission", "entry 1 of its client's script is a make, which is never refused by 34 NotYetCrossed"),
+        ("refused 30 Syntax 5 -\n", "retransmission", "it can be read to its end, and the answer refuses its line 5"),
+        ("refused 41 NotAllowed 9 server\n", "both_ask", "where no packet of that end is listed"),
+    ):
+        with stage.texts(answer=line, shown=shown, foreign=certificates[name]) as sight:
+            told(sight, "foreign.txt doesn't belong to the answer: ", words)
+
+
+def refused_explanation(stage):
+    """The texts of seatmelon are said to be what they are, and never to be cut."""
+    for name, text, words in (
+        ("refused", expected("missing_packet.suppose.txt"), "is a text of seatmelon explain"),
+        ("explained", expected("excerpt.explain.txt"), "is a text of seatmelon explain"),
+        ("none", "no packet of the connection\n", "is a text of seatmelon explain"),
+        ("survey", expected("late_copies.survey.txt"), "is a survey of seatmelon"),
+        ("audits", expected("station.audits.txt"), "is a text of seatmelon audit"),
+        ("listing", "packets of the recorded channels; nothing here is a verdict\n", "is a listing of seatmelon show"),
+    ):
+        with stage.texts(**{name: text}) as sight:
+            told(sight, f"{name}.txt {words}")
+            expect("cut or changed" not in sight.text("body"), "it is called cut")
+            sight.expect_counts(verdict="", notices=1)
+
+
+def parameters_alone(stage):
+    """A parameter file or a certificate alone gets a word."""
+    for name, path in (("parameters", EXAMPLES / "handshake.toml"), ("certificate", EXAMPLES / "handshake.cert")):
+        with stage.texts(**{name: path.read_text()}) as sight:
+            told(sight, "No answer is here", f"{name}.txt", "Drop the texts here")
+            sight.expect_counts(verdict="", packets=0)
+
+
+# ---- stories: files as other systems write them
+
+
+def line_ends(stage):
+    """Texts with CRLF or in UTF-16 are read as they are meant, and the page says what was mended."""
+    answer, shown = expected("retransmission.check.txt"), expected("retransmission.txt")
+    wanted = counts_of_answer(answer)
+    ways = {
+        "crlf": lambda text: text.replace("\n", "\r\n").encode(),
+        "utf16": lambda text: b"\xff\xfe" + text.replace("\n", "\r\n").encode("utf-16-le"),
+        "utf16_unmarked": lambda text: text.encode("utf-16-le"),
+        "utf16_big": lambda text: b"\xfe\xff" + text.encode("utf-16-be"),
+        "utf8_marked": lambda text: b"\xef\xbb\xbf" + text.encode(),
+    }
+    for name, way in ways.items():
+        files = [stage.file(f"{name}.{kind}.txt", way(text)) for kind, text in (("answer", answer), ("show", shown))]
+        with stage.viewer(*files) as sight:
+            sight.expect_counts(verdict="explained", notices=0, **wanted)
+            expect_equal(sight.act("state.model.show?.packets ?? 0"), 12, f"{name}: packets of show")
+            expect(name == "utf8_marked" or "mended" in sight.text("#brought"), f"{name}: nothing is said of it")
+
+
+def chosen_again(stage):
+    """A file that was written anew and chosen again is read anew."""
+    path = stage.file("answer.txt", expected("retransmission.check.txt"))
+    with stage.viewer(path) as sight:
+        sight.expect_counts(verdict="explained")
+        expect_equal(sight.act("byId('files').value"), "", "the choice is kept, so that the same file can't be chosen again")
+        stage.file("answer.txt", expected("missing_packet.audit.txt"))
+        sight.choose(path)
+        sight.expect_counts(verdict="refused", refused=28)
+
+
+def newlines(stage):
+    """200 kB of line ends, spaces or brackets don't hold the page up."""
+    for name, text in (("lines", "\n"), ("spaces", " "), ("both", " \n"), ("brackets", "["), ("quotes", '"\n'), ("keys", "a = [\n")):
+        with stage.viewer() as sight:
+            start = time.monotonic()
+            sight.choose(stage.file(f"{name}.txt", (text * 200_000)[:200_000]))
+            sight.choose(stage.file(f"{name}.toml", "t_max = 9\n" + (text * 200_000)[:200_000]))
+            took = time.monotonic() - start
+            expect(took < 3, f"{name}: {took:.1f} s")
+
+
+def spelled_numbers(stage):
+    """A window is read as TOML spells it, and only where it stands."""
+    shapes = [
+        ('"last_record" = 9', 9), ("'last_record' = 9", 9), ("last_record = 0x1F", 31), ("last_record = 0o17", 15),
+        ("last_record = 0b1001", 9), ("last_record = +9", 9), ("last_record = 4_000_000", 4000000), ("last_record=9 # 12", 9),
+        ('text = """\nlast_record = 9\n"""', None), ("# last_record = 9", None), ("last_record = 4000000000", None),
+        ("list = [\nlast_record, 9 ]", "unread"), ("list = [ 1, # ]\n  2,\n]\nlast_record = 9", 9), ("last_record = 9.5", None),
+    ]  # fmt: skip
+    head, table, rest = (EXAMPLES / "retransmission.toml").read_text().partition("[[channel]]")
+    with stage.viewer() as sight:
+        for line, last in shapes:
+            for text in (f"{line}\n{head}{table}{rest}", f"{head}{line}\r\n{table}{rest}"):
+                sight.act(f"startOver(); bring([mendedText('a.toml', {json.dumps(text)})])")
+                found = sight.act("(({window, fault}) => fault ? 'unread' : window && window.last_record)(state.texts.parameters.read)")
+                wanted = "unread" if last == "unread" else last
+                if last != "unread":
+                    expect_equal(found, wanted, line)
+                expect_equal(sight.act("state.texts.parameters.read.channels"), 1 if found != "unread" else 0, f"{line}: channels")
+        sight.act(f"startOver(); bring([{{name: 'a.toml', text: {json.dumps(head)} + 'a = '}}])")
+        told(sight, "a.toml can't be read by this page: line")
+
+
+# ---- stories: phones, zoom and paper
+
+
+SIZES = [(390, 800, 2), (640, 450, 2), (768, 1024, 1), (1280, 900, 1)]  # a phone, a zoom of 200 %, a tablet, a screen
+
+
+def every_size(stage):
+    """On a phone, at a zoom of 200 %, on a tablet and a screen all can be reached, in light and dark."""
+    capture = EXAMPLES / "retransmission.pcap"
+    with stage.report(capture, capture.with_suffix(".toml")) as sight:
+        for width, height, scale in SIZES:
+            sight.page.resize(width, height, scale)
+            sight.settle()
+            for dark in (False, True):
+                sight.page.is_dark(dark)
+                sight.settle()
+                expect_reachable(sight, width)
+                sight.act("window.scrollTo(0, 0)")
+                sight.shot(f"size_{width}_{'dark' if dark else 'light'}", whole=True)
+        sight.page.is_dark(False)
+
+
+# What of a selector's elements is cut: wider inside than out, or beyond the right edge of the page.
+CUT = """((selector) => Array.from(document.querySelectorAll(selector)).filter((one) => one.offsetParent !== null &&
+    (one.scrollWidth > one.clientWidth + 1 && one.clientWidth > 0 || one.getBoundingClientRect().right > innerWidth + 1))
+    .map((one) => one.textContent.slice(0, 60)))"""
+
+
+def expect_reachable(sight, width):
+    wide = sight.act("document.documentElement.scrollWidth - document.documentElement.clientWidth")
+    expect(wide <= 0, f"{width}: the page is {wide} pixels too wide")
+    cut = sight.act(f"{CUT}('#report td, #report pre, #verdict p, #verdict li, #brought td, .filters label, .tools')")
+    expect_equal(cut, [], f"{width}: cut")
+    for side, end in ((0, "left"), (1, "right")):
+        sight.act(f"revealSide({side})")
+        inside = sight.act(
+            "(() => { const box = byId('chart').getBoundingClientRect();"
+            f"const names = Array.from(document.querySelectorAll('#heads .name')).filter((one) => one.textContent === '{('Client', 'Server')[side]}');"
+            f"const lines = Array.from(document.querySelectorAll('#chart .life.{('client', 'server')[side]}'));"
+            "return [...names, ...lines].map((one) => one.getBoundingClientRect())"
+            ".every(({left, right}) => left >= box.left - 1 && right <= box.right + 1); })()"
+        )
+        expect(inside, f"{width}: the {('client', 'server')[side]} can't be reached, at the {end}")
+    sight.act("pickMessage(0)")
+    cells = sight.act("(() => Array.from(document.querySelectorAll('#list .list-row.picked > *'), (cell) => "
+                      "[cell.dataset.head, cell.scrollWidth > cell.clientWidth, cell.getBoundingClientRect().right <= "
+                      "byId('list').getBoundingClientRect().right + 1, cell.getBoundingClientRect().width]))()")  # fmt: skip
+    expect_equal(len(cells), 7, f"{width}: cells of a message")
+    for head, is_cut, is_inside, cell_width in cells:
+        expect(not is_cut and is_inside and cell_width >= 20, f"{width}: {head} is cut off")
+
+
+def long_report(stage, pairs):
+    """An answer and a listing of so many pairs of data and heartbeat, as seen between two ends."""
+    answer, shown = [f"explained {3 + 2 * pairs}", "0 client make 7 1000 open", "1 server take 7", "1 server make 40 9000 reply",
+                     "2 client take 40", "2 client make 8 1010 reply"], []  # fmt: skip
+    opening = "open 0303 20 0000000000000000"
+    for place, (side, number, kind, body) in enumerate((("client", 7, 6200, opening), ("server", 40, 6201, opening), ("client", 8, 6220, "-"))):
+        shown.append(f"{place} {place + 1} 1 {side} {number} 0 {kind} 1 1 1 1 {body} - -")
+    for pair in range(pairs):
+        place, clock = 3 + 2 * pair, 1020 + 10 * pair
+        answer += [f"{place} client make {9 + pair} {clock} fresh", f"{place + 1} server take {9 + pair}"]
+        answer += [f"{place + 1} server make {41 + pair} {clock + 8000} beat"]
+        shown.append(f"{place} {place + 1} 1 client {9 + pair} 0 6240 1 1 1 1 data {pair:08x} - -")
+        shown.append(f"{place + 1} {place + 2} 1 server {41 + pair} 0 6220 1 1 1 1 - - -")
+    taken = [f"{pair} {3 + 2 * pair} {4 + 2 * pair} {pair:08x}" for pair in range(pairs)]
+    answer += ["taken by client 0", f"taken by server {pairs}", *taken]
+    return "\n".join(answer) + "\n", "\n".join([*shown, f"packets {3 + 2 * pairs}"]) + "\n"
+
+
+def printing(stage):
+    """On paper the verdict stands on the first page, each page of the chart has its heads, and messages are those in view."""
+    capture = EXAMPLES / "missing_packet.pcap"
+    response = supposed(6213, "retransmission response", 7)
+    messages = [{"from": one, "to": other, "surely_taken": 0, "sent": 0, "not_shown": None, "messages": []} for one, other in (("client", "server"), ("server", "client"))]
+    premises = [f"A premise that is told at some length, of many words that say what this rests on, number {number}." for number in range(12)]
+    supposition = {"fillings": [[response], [supposed(6220, "heartbeat", 7)]], "gaps": [], "premises": premises, "messages": messages}
+    with stage.report(capture, capture.with_suffix(".toml"), "--seatmelon", stand_in_with(stage, supposition), "--suppose", "1") as sight:
+        pages = sight.printed("printed_suppose")
+        expect("refused28NumberGap7client" in pages[0], f"the first page doesn't say the verdict: {pages[0][:200]}")
+        expect(all(len(page) > 60 for page in pages), f"a page is empty: {[len(page) for page in pages]}")
+    answer, shown = long_report(stage, 60)
+    with stage.texts(answer=answer, shown=shown) as sight:
+        pages = sight.printed("printed_chart")
+        drawn = [page for page in pages if "no." in page and "SN1" in page]
+        expect(len(drawn) > 3, f"{len(drawn)} pages of the chart")
+        expect(all("Tapplace" in page for page in drawn), "a page of the chart has no heads")
+        listed = [page for page in pages if page.count("client→server") > 4]
+        expect(listed and all("Data(record)" in page for page in listed), "a page of messages has no heads")
+    answer, shown = long_report(stage, 3000)
+    with stage.texts(answer=answer, shown=shown) as sight:
+        sight.act("goToPlace(4003)")
+        pages = sight.printed("printed_long")
+        text = "".join(pages)
+        expect("place4003(4004)" in text, "the message in view isn't printed")
+        expect("place3(4)" not in text, "the messages begin at the first one")
+        expect("of3,000,aroundwhatisinview" in text, "it isn't said which messages are printed")
+        expect(len(pages) < 20, f"{len(pages)} pages")
+    with stage.texts(answer=expected("retransmission.check.txt")) as sight:
+        sight.act("byId('theme').value = 'dark'; byId('theme').dispatchEvent(new Event('change'))")
+        expect("explained12" in "".join(sight.printed("printed_dark")), "the print has no name of the answer's file")
+
+
+# ---- stories: reports
+
+
+def damaged_report(stage):
+    """A report that was cut or changed says so, and draws nothing."""
+    capture = EXAMPLES / "retransmission.pcap"
+    with stage.report(capture, capture.with_suffix(".toml")) as sight:
+        sight.page.wait_until(lambda: sight.counts().get("sums") == "agree", "the sums to be compared")
+        told(sight, "The texts in this page have the sums that the report names.")
+    whole = (stage.scratch / "retransmission.html").read_text(encoding="utf-8")
+    data = whole.index('<div id="report-data"')
+    for name, text in (
+        ("cut", whole[: data + 2000]),
+        ("changed", whole.replace('"files": [', '"files": {', 1)),
+        ("emptied", whole[:data] + '<div id="report-data" hidden><!--{}--></div></body></html>'),
+        ("gone", whole[:data]),
+        ("no_answer", whole.replace('"kind": "verdict"', '"kind": "else"', 1)),
+    ):
+        with Sight(stage, stage.file(f"damaged_{name}.html", text)) as sight:
+            told(sight, "The report in this page is damaged")
+            sight.expect_counts(verdict="", packets=0)
+    with Sight(stage, stage.file("damaged_script.html", whole[: whole.index("function readShow")])) as sight:
+        told(sight, "This page’s script doesn’t run, so nothing is drawn")
+    changed_text = whole.replace("0 3 9 ab01", "0 3 9 ab02", 1)
+    expect(changed_text != whole, "nothing was changed")
+    with Sight(stage, stage.file("damaged_text.html", changed_text)) as sight:
+        sight.page.wait_until(lambda: sight.counts().get("sums") == "differ", "the sums to be compared")
+        told(sight, "has another sum than the report names")
+        sight.shot("damaged_text")
+
+
+def pcapng_report(stage):
+    """A report of a pcapng file says that it isn't judged, or has the answer about the classic file that is made of it."""
+    capture, parameters = EXAMPLES / "pcapng/excerpt.pcapng", EXAMPLES / "excerpt.toml"
+    window = {"first_record": 4, "last_record": 22, "packets_before": 3, "packets_behind": 2}
+    said = {"verdict": "explained", "packets_explained": 12, "window": window}
+    script = f"#!/bin/sh\n[ \"$1\" = explain ] && echo '{json.dumps(said)}'\nexit 1\n"
+    program = stage.file("stand_in", script)
+    program.chmod(0o755)
+    with stage.report(capture, parameters, "--seatmelon", program) as sight:
+        sight.expect_counts(verdict="refused", refused=10)
+        text = sight.text("body")
+        expect("Judged were only" not in text, "it is said what was judged of a file that wasn't")
+        told(sight, "contradicts the answer of rasta_audit")
+    classic = stage.file("excerpt.pcap", (EXAMPLES / "excerpt.pcap").read_bytes())
+    script = f"#!/bin/sh\n[ \"$1\" = explain ] && echo '{json.dumps(said)}'\n[ \"$1\" = convert ] && cat '{classic}'\nexit 0\n"
+    program = stage.file("stand_in", script)
+    program.chmod(0o755)
+    with stage.report(capture, parameters, "--seatmelon", program) as sight:
+        sight.expect_counts(verdict="explained", packets=12, notices=0)
+        told(sight, "rasta_audit read excerpt.pcap, which seatmelon convert made of excerpt.pcapng", "the packets in records 4 to 22,",
+             "convert excerpt.pcapng > excerpt.pcap")  # fmt: skip
+        for path in (capture, classic):
+            expect(hashlib.sha256(path.read_bytes()).hexdigest() in sight.text("#report"), f"no sum of {path.name}")
+
+
+def refused_packet(stage):
+    """The packet that is refused for its code (25) is drawn though show ends before it, and a copy (27) with its own bytes."""
+    with stage.texts(answer=expected("flipped_bit.audit.txt"), shown=expected("flipped_bit.txt")) as sight:
+        sight.expect_counts(notices=0)
+        drawn = sight.act("Array.from(document.querySelectorAll('#chart g[data-kind=\"6\"]'), (g) => g.textContent)")
+        expect(len(drawn) == 1 and "Refused" in drawn[0] and "record 8" in drawn[0], f"the refused packet: {drawn}")
+        expect_equal(sight.act("document.querySelectorAll('#chart line.refused.client').length"), 1, "its arrow")
+        sight.act("pickRow(state.chart.story.rows - 1)")
+        expect("The refused packet" in sight.text("#details"), "its details")
+        sight.page.resize(1280, 1700)
+        sight.settle()
+        sight.shot("refused_code")
+    fields = {"type": 6240, "type_name": "data", "redundancy_number": 9, "sn": 102, "cs": 500, "ts": 1020, "cts": 9000}
+    said = {"verdict": "refused", "fault": {"number": 25, "name": "Code"}, "record": {"record": 8, "time": "2026-01-01 00:00:00.000000 UTC"},
+            "packet": {"end": "client", "channel": 2, "bytes": 60, "fields": fields}, "trouble": {"code_found": "aa", "code_due": "bb"}}  # fmt: skip
+    program = stage.file("stand_in", f"#!/bin/sh\n[ \"$1\" = explain ] && echo '{json.dumps(said)}'\nexit 1\n")
+    program.chmod(0o755)
+    capture = EXAMPLES / "flipped_bit.pcap"
+    with stage.report(capture, capture.with_suffix(".toml"), "--seatmelon", program) as sight:
+        drawn = sight.act("document.querySelector('#chart g[data-kind=\"6\"]').textContent")
+        expect("Refused: data" in drawn and "record 8 · no. 9 · SN 102 · CS 500" in drawn, f"the refused packet: {drawn}")
+        sight.act("pickRow(state.chart.story.rows - 1)")
+        details = sight.text("#details")
+        expect("Code due" in details and "bb" in details, f"its details: {details}")
+    copy = expected("late_copies.txt").splitlines()
+    packets = [line.split(" ") for line in copy[:-1]]
+    at = next(place for place, one in enumerate(packets) if one[6] == "6240" and any(one[3:5] == other[3:5] for other in packets[:place]))
+    words = packets[at]
+    first = next(one for one in packets if one[3:5] == words[3:5])
+    words[12] = ("0" if words[12][0] != "0" else "1") + words[12][1:]
+    shown = "\n".join([*copy[:at], " ".join(words), *copy[at + 1 :]]) + "\n"
+    with stage.texts(answer=f"refused 27 CopyDiffers {words[1]} {words[3]}\n", shown=shown) as sight:
+        sight.expect_counts(notices=0)
+        drawn = sight.act(f"document.querySelector('#chart g[data-row=\"{at + 1}\"]').textContent")
+        expect(words[12][:8].split(",")[0] in drawn and f"not as place {first[0]}" in drawn, f"the copy's own bytes: {drawn}")
+        sight.act(f"goToPlace({at})")
+        expect(re.search(r"Differs in\s+body", sight.text("#details")), f"what differs: {sight.text('#details')[-300:]}")
+        sight.page.resize(1280, 1700)
+        sight.settle()
+        sight.shot("refused_copy")
+
+
+# ---- stories: small things
+
+
+def long_clocks(stage):
+    """Clocks of thirteen digits and of twenty are whole, at any width."""
+    for clock in (1767225600123, 18446744073709551000):
+        answer = (
+            f"explained 3\n0 client make 7 {clock} open\n1 server take 7\n1 server make 40 {clock} reply\n2 client take 40\n"
+            f"2 client make 8 {clock + 10} reply\ntaken by client 0\ntaken by server 0\n"
+        )
+        with stage.texts(answer=answer) as sight:
+            for width in (390, 768, 1280):
+                sight.page.resize(width, 900)
+                sight.settle()
+                found = sight.act(
+                    f"Array.from(document.querySelectorAll('#chart text')).filter((one) => one.textContent.startsWith('{str(clock)[:5]}'))"
+                    ".map((one) => { const {x, width} = one.getBBox(); const all = Number(one.ownerSVGElement.getAttribute('width'));"
+                    "return [one.textContent, x >= 0 && x + width <= all]; })"
+                )
+                expect_equal([is_whole for _, is_whole in found], [True] * 3, f"clocks at {width}: {found}")
+                expect({text for text, _ in found} == {str(clock), str(clock + 10)}, f"clocks: {found}")
+            sight.shot(f"clocks_{len(str(clock))}")
+
+
+def places_that_are_none(stage):
+    """What is no place is told so."""
+    with stage.texts(answer=expected("retransmission.check.txt"), shown=expected("retransmission.txt")) as sight:
+        for field, value, words in (
+            ("from", "abc", "“abc” is no place: places go from 0 to 11."),
+            ("to", "-1", "“-1” is no place"),
+            ("from", "12", "There is no place 12: places go from 0 to 11."),
+        ):
+            sight.fill(field, value)
+            expect(words in sight.text("#problem"), f"{field} {value}: {sight.text('#problem')}")
+            expect_equal(sight.act(f"byId('{field}').getAttribute('aria-invalid')"), "true", "the field is marked")
+            sight.act("clearFilter()")
+            expect_equal(sight.act("byId('problem').hidden"), True, "the word goes")
+        sight.act("byId('from').value = '9'; byId('to').value = '3'; applyFilter()")
+        expect("No place is from 9 on and not behind 3." in sight.text("#problem"), "places that fall")
+        sight.act("clearFilter(); byId('goto').value = 'zwei'; byId('goto').dispatchEvent(new Event('change'))")
+        expect("“zwei” is no place" in sight.text("#problem"), "going to no place")
+
+
+def first_hit(stage):
+    """A search goes to its first hit, and Enter to the next one."""
+    answer, shown = long_report(stage, 400)
+    with stage.texts(answer=answer, shown=shown) as sight:
+        sight.act("goToPlace(5)")
+        sight.fill("bytes", "00000141")
+        expect_equal(sight.act("state.chart.messages.data.at(state.pickedMessage)"), 3 + 2 * 0x141, "the hit")
+        seen = "document.querySelector('#chart .picked-row') !== null"
+        expect(sight.act(seen), "the hit isn't in view")
+        sight.fill("bytes", "0000")
+        expect_equal(sight.act("state.chart.messages.data.at(state.pickedMessage)"), 3, "the first hit")
+        sight.act("byId('bytes').dispatchEvent(new KeyboardEvent('keydown', {key: 'Enter'}))")
+        expect_equal(sight.act("state.chart.messages.data.at(state.pickedMessage)"), 5, "the second hit")
+        sight.fill("bytes", "ffff")
+        expect("no message that passes has them" in sight.text("#found"), "nothing is found, and not told")
+
+
 STORIES = [policy_is_closed, times_and_numbers, supposed_pdus, places_of_a_report, statuses, carriage_returns, ten_digits, ways_in, other_capture, unknown_texts, cut_texts, bent_texts, hostile, hostile_parameters,
-           long_lines, keys, filters, colours, not_taken, no_packets, no_capture, window_is_told, random_runs_are_drawn]  # fmt: skip
+           long_lines, keys, filters, colours, not_taken, no_packets, no_capture, window_is_told, random_runs_are_drawn,
+           answer_beside_report, three_answers, foreign_parameters, foreign_listing, foreign_certificate, refused_explanation,
+           parameters_alone, line_ends, chosen_again, newlines, spelled_numbers, every_size, printing, damaged_report,
+           pcapng_report, refused_packet, long_clocks, places_that_are_none, first_hit]  # fmt: skip
 
 
 def all_stories(stage):
@@ -1016,7 +1511,7 @@ def all_stories(stage):
 def run(stage, only):
     failed = count = 0
     for name, story in all_stories(stage):
-        if only and only not in name:
+        if only and not any(word in name for word in only):
             continue
         count += 1
         try:
@@ -1033,7 +1528,7 @@ def main():
     asked = argparse.ArgumentParser(description="Tests the viewer in a browser.")
     asked.add_argument("--program", type=pathlib.Path, default=PROGRAM)
     asked.add_argument("--browser", help="the browser's program")
-    asked.add_argument("--only", help="only stories whose name has this word")
+    asked.add_argument("--only", metavar="WORD", action="append", help="only stories whose name has this word, or one of these")
     asked.add_argument("--renew", action="store_true", help="write the hashes of the page's policy anew")
     asked.add_argument("folder", type=pathlib.Path, nargs="?")
     words = asked.parse_args()
