@@ -580,7 +580,7 @@ def other_capture(stage):
     _, shown = sample_texts(stage, "both_ask")
     with stage.texts(answer=answer, shown=shown) as sight:
         sight.expect_counts(verdict="explained", notices=1, **counts_of_answer(answer))
-        expect("doesn't belong to the answer" in sight.text("#notices"), "the difference isn't told")
+        expect("and the answer can't be taken together" in sight.text("#notices"), "the difference isn't told")
         sight.shot("other_capture")
 
 
@@ -1075,7 +1075,7 @@ def foreign_parameters(stage):
     answer, shown = expected("retransmission.check.txt"), expected("retransmission.txt")
     window = with_keys("retransmission", last_record=9)
     with stage.texts(answer=answer, window=window) as sight:
-        told(sight, "window.txt doesn't belong to the answer: its window has 9 records, and the answer speaks of 12 packets")
+        told(sight, "window.txt and the answer can't be taken together: its window has 9 records, and the answer speaks of 12 packets")
         expect("records 1 to 9" not in sight.text("#verdict"), "the window is told of the answer")
         sight.shot("foreign_parameters")
     with stage.texts(answer=answer, parameters=with_keys("retransmission", last_record=400)) as sight:
@@ -1089,7 +1089,7 @@ def foreign_parameters(stage):
         ("checks", with_keys("retransmission", check_length=0), "it records check codes of no bytes, and those of the packets have 4 bytes"),
     ):
         with stage.texts(answer=answer, shown=shown, **{name: parameters}) as sight:
-            told(sight, f"{name}.txt doesn't belong to the answer: {words}")
+            told(sight, f"{name}.txt and the answer can't be taken together: {words}")
             sight.expect_counts(notices=1)
     refused = "refused 28 NumberGap 7 client\n"
     with stage.texts(answer=refused, early=with_keys("retransmission", last_record=6)) as sight:
@@ -1115,11 +1115,29 @@ def foreign_listing(stage):
     """A refusal is drawn in no listing that contradicts it."""
     for line, sample_name, words in FOREIGN:
         with stage.texts(answer=f"{line}\n", shown=expected(f"{sample_name}.txt")) as sight:
-            told(sight, f"shown.txt doesn't belong to the answer: {words}. It is left aside, and nothing is drawn from both.")
+            told(sight, f"shown.txt and the answer can't be taken together: {words}. It is left aside, and nothing is drawn from both.")
             sight.expect_counts(notices=1, packets=0)
     with stage.texts(answer="refused 28 NumberGap 7 client\n", shown=expected("missing_packet.txt")) as sight:
         sight.expect_counts(notices=0, packets=11)
         expect_equal(sight.act("state.chart.story.mark.packet"), 6, "the framed packet")
+    answer, shown = expected("retransmission.check.txt"), expected("retransmission.txt")
+    with stage.texts(answer=answer[: answer.index("5 server take 10")], shown=shown) as sight:
+        sight.expect_counts(verdict="broken", notices=0)
+    with stage.texts(answer=answer, shown=shown[:700]) as sight:
+        told(sight, "shown.txt and the answer can't be taken together: it isn't whole (line ")
+        sight.expect_counts(verdict="explained", notices=1)
+
+
+def several_listings(stage):
+    """Of several texts of show, without an answer, none is drawn before one is chosen."""
+    with stage.texts(one=expected("retransmission.txt"), other=expected("both_ask.txt")) as sight:
+        sight.expect_counts(verdict="", packets=0)
+        told(sight, "2 texts of show: one is drawn at a time", "one.txt", "12 packets", "other.txt", "17 packets")
+        sight.act("document.querySelectorAll('#brought button')[1].click()")
+        sight.expect_counts(packets=17)
+        sight.choose(stage.file("again.txt", expected("both_ask.txt")))
+        sight.expect_counts(packets=17)
+        told(sight, "again.txt")
 
 
 def foreign_certificate(stage):
@@ -1136,7 +1154,7 @@ def foreign_certificate(stage):
         ("refused 41 NotAllowed 9 server\n", "both_ask", "where no packet of that end is listed"),
     ):
         with stage.texts(answer=line, shown=shown, foreign=certificates[name]) as sight:
-            told(sight, "foreign.txt doesn't belong to the answer: ", words)
+            told(sight, "foreign.txt and the answer can't be taken together: ", words)
 
 
 def refused_explanation(stage):
@@ -1492,7 +1510,8 @@ def first_hit(stage):
 
 STORIES = [policy_is_closed, times_and_numbers, supposed_pdus, places_of_a_report, statuses, carriage_returns, ten_digits, ways_in, other_capture, unknown_texts, cut_texts, bent_texts, hostile, hostile_parameters,
            long_lines, keys, filters, colours, not_taken, no_packets, no_capture, window_is_told, random_runs_are_drawn,
-           answer_beside_report, three_answers, foreign_parameters, foreign_listing, foreign_certificate, refused_explanation,
+           answer_beside_report, three_answers, foreign_parameters, foreign_listing, several_listings, foreign_certificate,
+           refused_explanation,
            parameters_alone, line_ends, chosen_again, newlines, spelled_numbers, every_size, printing, damaged_report,
            pcapng_report, refused_packet, long_clocks, places_that_are_none, first_hit]  # fmt: skip
 
