@@ -1152,6 +1152,7 @@ def foreign_certificate(stage):
         ("refused 34 NotYetCrossed 1 client\n", "retransmission", "entry 1 of its client's script is a make, which is never refused by 34 NotYetCrossed"),
         ("refused 30 Syntax 5 -\n", "retransmission", "it can be read to its end, and the answer refuses its line 5"),
         ("refused 41 NotAllowed 9 server\n", "both_ask", "where no packet of that end is listed"),
+        ("refused 60 NotFound 9 -\n", "both_ask", "where no packet of that end is listed"),
     ):
         with stage.texts(answer=line, shown=shown, foreign=certificates[name]) as sight:
             told(sight, "foreign.txt and the answer can't be taken together: ", words)
@@ -1297,6 +1298,44 @@ def expect_reachable(sight, width):
     expect_equal(len(cells), 7, f"{width}: cells of a message")
     for head, is_cut, is_inside, cell_width in cells:
         expect(not is_cut and is_inside and cell_width >= 20, f"{width}: {head} is cut off")
+
+
+# The least contrast of the texts in view with the ground behind them, and the text that has it.
+CONTRAST = """(() => {
+    const ofPart = (part) => part <= 0.04045 ? part / 12.92 : ((part + 0.055) / 1.055) ** 2.4;
+    const brightness = (colour) => { const [r, g, b] = colour.match(/[0-9.]+/g).map(Number); return 0.2126 * ofPart(r / 255) + 0.7152 * ofPart(g / 255) + 0.0722 * ofPart(b / 255); };
+    const isClear = (colour) => colour === 'transparent' || /, 0\\)$/.test(colour);
+    const ground = (node) => { for (let at = node; at; at = at.parentElement) { const colour = getComputedStyle(at).backgroundColor; if (!isClear(colour)) { return colour; } } return getComputedStyle(document.documentElement).backgroundColor; };
+    const walker = document.createTreeWalker(document.body, NodeFilter.SHOW_TEXT);
+    let least = [99, ''];
+    while (walker.nextNode()) {
+        const node = walker.currentNode.parentElement;
+        if (walker.currentNode.data.trim() === '' || node.getClientRects().length === 0 || ['SCRIPT', 'OPTION'].includes(node.tagName)) { continue; }
+        const style = getComputedStyle(node);
+        const [one, other] = [node.ownerSVGElement ? style.fill : style.color, ground(node)].map(brightness);
+        const contrast = (Math.max(one, other) + 0.05) / (Math.min(one, other) + 0.05);
+        if (contrast < least[0]) { least = [contrast, walker.currentNode.data.slice(0, 60)]; }
+    }
+    return least; })()"""
+
+
+def contrast(stage):
+    """Each text differs enough from its ground, in light and dark, of an answer, a refusal and a choice."""
+    shown = [expected("retransmission.txt"), expected("flipped_bit.txt")]
+    scenes = [
+        {"answer": expected("retransmission.check.txt"), "shown": shown[0], "window": with_keys("retransmission", last_record=9)},
+        {"answer": expected("flipped_bit.audit.txt"), "shown": shown[1]},
+        {"one": expected("retransmission.check.txt"), "other": expected("flipped_bit.audit.txt")},
+    ]
+    for texts in scenes:
+        with stage.texts(**texts) as sight:
+            if "shown" in texts:
+                sight.act("goToPlace(3); byId('from').value = 'abc'; applyFilter()")
+            for dark in (False, True):
+                sight.page.is_dark(dark)
+                sight.settle()
+                least, words = sight.act(CONTRAST)
+                expect(least >= 4.6, f"{'dark' if dark else 'light'}: a contrast of {least:.2f}: {words}")
 
 
 def long_report(stage, pairs):
@@ -1512,7 +1551,7 @@ STORIES = [policy_is_closed, times_and_numbers, supposed_pdus, places_of_a_repor
            long_lines, keys, filters, colours, not_taken, no_packets, no_capture, window_is_told, random_runs_are_drawn,
            answer_beside_report, three_answers, foreign_parameters, foreign_listing, several_listings, foreign_certificate,
            refused_explanation,
-           parameters_alone, line_ends, chosen_again, newlines, spelled_numbers, every_size, printing, damaged_report,
+           parameters_alone, line_ends, chosen_again, newlines, spelled_numbers, every_size, contrast, printing, damaged_report,
            pcapng_report, refused_packet, long_clocks, places_that_are_none, first_hit]  # fmt: skip
 
 
