@@ -9,7 +9,10 @@ leaves at its default path; and plain Python 3, no other packages. It installs n
 
 - a report of each sample, printed too, of random runs, and of 200,000 packets, which are made up here;
 - a refusal of each number, and refusals of samples that were changed, with the packets around them;
-- texts that are dropped, pasted, chosen, cut, joined with those of another capture, or hostile;
+- texts that are dropped, pasted, chosen, cut, or hostile, of other systems, and of seatmelon;
+- several answers at once, an answer that is added, and each text that contradicts another;
+- a phone, a zoom of 200 %, a tablet and a screen, in light and dark, contrasts, and what stands on each printed page;
+- reports of pcapng files, and reports that were cut or changed;
 - times of records, the numbers of a gap, supposed PDUs, chosen places, numbers of ten digits, and the statuses of report.py;
 - filters, keys, both colour schemes, and the picture saved as SVG.
 
