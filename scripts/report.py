@@ -39,7 +39,9 @@ HERE = pathlib.Path(__file__).resolve().parent
 TOP = HERE.parent
 NOTHING = '<div id="report-data" hidden><!--null--></div>'
 
-CONTRADICTED = "What seatmelon explain says of these files contradicts the answer of rasta_audit, so nothing of it is on this page."
+CONTRADICTED = (
+    "What seatmelon explain says of these files contradicts the answer of rasta_audit, so nothing of it is on this page."
+)
 
 # A line of `seatmelon show`: the number of the record and its time.
 LISTED = re.compile(rb" *([0-9]+)  ([0-9-]{10} [0-9:]{8}[.][0-9]+) ")
@@ -191,7 +193,7 @@ def verdict_in(explanation):
 
 
 def contradicts(explanation, verdict):
-    """Whether an explanation tells another verdict than the answer: another kind or number, other packets or another record."""
+    """Whether an explanation tells another verdict than the answer: another kind, number, record, or other packets."""
     said = decoded(verdict)
     if not said.startswith(verdict_in(explanation)):
         return True

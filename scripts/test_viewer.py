@@ -1019,6 +1019,10 @@ def expected(name):
     return (EXAMPLES / "expected" / name).read_text()
 
 
+# What the page says of a text that contradicts the answer.
+APART = "and the answer can't be taken together"
+
+
 def told(sight, *words):
     """Each of these words is on the page."""
     said = sight.text("body")
@@ -1051,7 +1055,7 @@ def answer_beside_report(stage):
 
 
 def three_answers(stage):
-    """Of three answers none is drawn before one is chosen; a refusal among them is listed, with each name, on paper too."""
+    """Of three answers none is drawn before one is chosen; a refusal among them is listed by name, on paper too."""
     files = [stage.file(f"{name}.answer.txt", expected(f"{name}.{kind}.txt")) for name, kind in (
         ("retransmission", "check"), ("missing_packet", "audit"), ("both_ask", "check"))]  # fmt: skip
     shown = [stage.file(f"{name}.show.txt", expected(f"{name}.txt")) for name in ("both_ask", "missing_packet")]
@@ -1064,8 +1068,8 @@ def three_answers(stage):
         for words in (*gists, *(path.name for path in files)):
             expect("".join(words.split()) in printed, f"not printed: {words}")
         for name, verdict in (("missing_packet", "refused"), ("both_ask", "explained"), ("retransmission", "explained")):
-            sight.act(f"Array.from(document.querySelectorAll('#brought tr')).find((row) => row.innerText.startsWith('{name}.answer'))"
-                      ".querySelector('button').click()")  # fmt: skip
+            row = f"find((row) => row.innerText.startsWith('{name}.answer'))"
+            sight.act(f"Array.from(document.querySelectorAll('#brought tr')).{row}.querySelector('button').click()")
             sight.expect_counts(verdict=verdict, notices=0)
             told(sight, *gists, *(path.name for path in files))
             shows = sight.act("state.texts.show?.name ?? null")
@@ -1078,7 +1082,7 @@ def foreign_parameters(stage):
     answer, shown = expected("retransmission.check.txt"), expected("retransmission.txt")
     window = with_keys("retransmission", last_record=9)
     with stage.texts(answer=answer, window=window) as sight:
-        told(sight, "window.txt and the answer can't be taken together: its window has 9 records, and the answer speaks of 12 packets")
+        told(sight, f"window.txt {APART}: its window has 9 records, and the answer speaks of 12 packets")
         expect("records 1 to 9" not in sight.text("#verdict"), "the window is told of the answer")
         sight.shot("foreign_parameters")
     with stage.texts(answer=answer, parameters=with_keys("retransmission", last_record=400)) as sight:
@@ -1088,11 +1092,11 @@ def foreign_parameters(stage):
         expect("records a window" not in sight.text("body"), "the window of an earlier answer stays")
     for name, parameters, words in (
         ("late", with_keys("retransmission", first_record=4), "its window is the records from 4 on, and a packet is in record 1"),
-        ("codes", with_keys("retransmission", code_length=8), "it records safety codes of 8 bytes, and those of the packets have 16 bytes"),
-        ("checks", with_keys("retransmission", check_length=0), "it records check codes of no bytes, and those of the packets have 4 bytes"),
+        ("codes", with_keys("retransmission", code_length=8), "it records safety codes of 8 bytes, and those"),
+        ("checks", with_keys("retransmission", check_length=0), "it records check codes of no bytes, and those"),
     ):
         with stage.texts(answer=answer, shown=shown, **{name: parameters}) as sight:
-            told(sight, f"{name}.txt and the answer can't be taken together: {words}")
+            told(sight, f"{name}.txt {APART}: {words}")
             sight.expect_counts(notices=1)
     refused = "refused 28 NumberGap 7 client\n"
     with stage.texts(answer=refused, early=with_keys("retransmission", last_record=6)) as sight:
@@ -1103,22 +1107,25 @@ def foreign_parameters(stage):
 FOREIGN = [
     ("refused 60 NotFound 99 -", "missing_packet", "it has 11 packets, and the answer refuses the one at place 98"),
     ("refused 28 NumberGap 99 client", "missing_packet", "it has no packet in record 99, which the answer refuses"),
-    ("refused 28 NumberGap 6 client", "missing_packet", "its record 6 was sent by the server, and the answer refuses one of the client"),
+    ("refused 28 NumberGap 6 client", "missing_packet",
+     "its record 6 was sent by the server, and the answer refuses one of the client"),
     ("refused 28 NumberGap 7 client", "retransmission", "the number of its record 7 is the next one"),
     ("refused 27 CopyDiffers 7 client", "retransmission", "the number of its record 7 didn't cross before"),
     ("refused 25 Code 5 client", "retransmission", "it ends with packets 12, and the answer is refused 25 Code 5 client"),
-    ("refused 25 Code 5 client", "flipped_bit", "it ends with refused 25 Code 8 client, and the answer is refused 25 Code 5 client"),
-    ("refused 28 NumberGap 9 client", "flipped_bit", "it ends with refused 25 Code 8 client, which the answer would name first"),
+    ("refused 25 Code 5 client", "flipped_bit",
+     "it ends with refused 25 Code 8 client, and the answer is refused 25 Code 5 client"),
+    ("refused 28 NumberGap 9 client", "flipped_bit",
+     "it ends with refused 25 Code 8 client, which the answer would name first"),
     ("refused 51 MissingKey 7 -", "retransmission", "where the parameters are refused nothing is listed"),
     ("explained 0\ntaken by client 0\ntaken by server 0", "retransmission", "it has 12 packets and the answer 0"),
-]
+]  # fmt: skip
 
 
 def foreign_listing(stage):
     """A refusal is drawn in no listing that contradicts it."""
     for line, sample_name, words in FOREIGN:
         with stage.texts(answer=f"{line}\n", shown=expected(f"{sample_name}.txt")) as sight:
-            told(sight, f"shown.txt and the answer can't be taken together: {words}. It is left aside, and nothing is drawn from both.")
+            told(sight, f"shown.txt {APART}: {words}. It is left aside, and nothing is drawn from both.")
             sight.expect_counts(notices=1, packets=0)
     with stage.texts(answer="refused 28 NumberGap 7 client\n", shown=expected("missing_packet.txt")) as sight:
         sight.expect_counts(notices=0, packets=11)
@@ -1127,7 +1134,7 @@ def foreign_listing(stage):
     with stage.texts(answer=answer[: answer.index("5 server take 10")], shown=shown) as sight:
         sight.expect_counts(verdict="broken", notices=0)
     with stage.texts(answer=answer, shown=shown[:700]) as sight:
-        told(sight, "shown.txt and the answer can't be taken together: it isn't whole (line ")
+        told(sight, f"shown.txt {APART}: it isn't whole (line ")
         sight.expect_counts(verdict="explained", notices=1)
 
 
@@ -1152,13 +1159,14 @@ def foreign_certificate(stage):
     for line, name, words in (
         (answer, "both_ask", "script isn't in the run of the answer"),
         ("refused 41 NotAllowed 99 client\n", "retransmission", "entries, and the answer refuses entry 99"),
-        ("refused 34 NotYetCrossed 1 client\n", "retransmission", "entry 1 of its client's script is a make, which is never refused by 34 NotYetCrossed"),
+        ("refused 34 NotYetCrossed 1 client\n", "retransmission",
+         "entry 1 of its client's script is a make, which is never refused by 34 NotYetCrossed"),
         ("refused 30 Syntax 5 -\n", "retransmission", "it can be read to its end, and the answer refuses its line 5"),
         ("refused 41 NotAllowed 9 server\n", "both_ask", "where no packet of that end is listed"),
         ("refused 60 NotFound 9 -\n", "both_ask", "where no packet of that end is listed"),
     ):
         with stage.texts(answer=line, shown=shown, foreign=certificates[name]) as sight:
-            told(sight, "foreign.txt and the answer can't be taken together: ", words)
+            told(sight, f"foreign.txt {APART}: ", words)
 
 
 def refused_explanation(stage):
@@ -1212,7 +1220,7 @@ def chosen_again(stage):
     path = stage.file("answer.txt", expected("retransmission.check.txt"))
     with stage.viewer(path) as sight:
         sight.expect_counts(verdict="explained")
-        expect_equal(sight.act("byId('files').value"), "", "the choice is kept, so that the same file can't be chosen again")
+        expect_equal(sight.act("byId('files').value"), "", "the choice, which keeps the same file from being chosen again")
         stage.file("answer.txt", expected("missing_packet.audit.txt"))
         sight.choose(path)
         sight.expect_counts(verdict="refused", refused=28)
@@ -1220,7 +1228,8 @@ def chosen_again(stage):
 
 def newlines(stage):
     """200 kB of line ends, spaces or brackets don't hold the page up."""
-    for name, text in (("lines", "\n"), ("spaces", " "), ("both", " \n"), ("brackets", "["), ("quotes", '"\n'), ("keys", "a = [\n")):
+    shapes = {"lines": "\n", "spaces": " ", "both": " \n", "brackets": "[", "quotes": '"\n', "keys": "a = [\n"}
+    for name, text in shapes.items():
         with stage.viewer() as sight:
             start = time.monotonic()
             sight.choose(stage.file(f"{name}.txt", (text * 200_000)[:200_000]))
@@ -1235,18 +1244,19 @@ def spelled_numbers(stage):
         ('"last_record" = 9', 9), ("'last_record' = 9", 9), ("last_record = 0x1F", 31), ("last_record = 0o17", 15),
         ("last_record = 0b1001", 9), ("last_record = +9", 9), ("last_record = 4_000_000", 4000000), ("last_record=9 # 12", 9),
         ('text = """\nlast_record = 9\n"""', None), ("# last_record = 9", None), ("last_record = 4000000000", None),
-        ("list = [\nlast_record, 9 ]", "unread"), ("list = [ 1, # ]\n  2,\n]\nlast_record = 9", 9), ("last_record = 9.5", None),
+        ("list = [\nlast_record 9 ]", "unread"), ("list = [ 1, # ]\n  2,\n]\nlast_record = 9", 9), ("last_record = 9.5", None),
     ]  # fmt: skip
     head, table, rest = (EXAMPLES / "retransmission.toml").read_text().partition("[[channel]]")
     with stage.viewer() as sight:
         for line, last in shapes:
             for text in (f"{line}\n{head}{table}{rest}", f"{head}{line}\r\n{table}{rest}"):
                 sight.act(f"startOver(); bring([mendedText('a.toml', {json.dumps(text)})])")
-                found = sight.act("(({window, fault}) => fault ? 'unread' : window && window.last_record)(state.texts.parameters.read)")
-                wanted = "unread" if last == "unread" else last
-                if last != "unread":
-                    expect_equal(found, wanted, line)
-                expect_equal(sight.act("state.texts.parameters.read.channels"), 1 if found != "unread" else 0, f"{line}: channels")
+                read = sight.act("state.texts.parameters.read")
+                if last == "unread":
+                    expect(read["fault"], f"{line}: it is read")
+                else:
+                    expect_equal((read["window"] or {}).get("last_record"), last, line)
+                    expect_equal((read["fault"], read["channels"]), (None, 1), f"{line}: channels")
         sight.act(f"startOver(); bring([{{name: 'a.toml', text: {json.dumps(head)} + 'a = '}}])")
         told(sight, "a.toml can't be read by this page: line")
 
@@ -1284,20 +1294,24 @@ def expect_reachable(sight, width):
     expect(wide <= 0, f"{width}: the page is {wide} pixels too wide")
     cut = sight.act(f"{CUT}('#report td, #report pre, #verdict p, #verdict li, #brought td, .filters label, .tools')")
     expect_equal(cut, [], f"{width}: cut")
-    for side, end in ((0, "left"), (1, "right")):
+    for side, name in enumerate(("client", "server")):
         sight.act(f"revealSide({side})")
         inside = sight.act(
             "(() => { const box = byId('chart').getBoundingClientRect();"
-            f"const names = Array.from(document.querySelectorAll('#heads .name')).filter((one) => one.textContent === '{('Client', 'Server')[side]}');"
-            f"const lines = Array.from(document.querySelectorAll('#chart .life.{('client', 'server')[side]}'));"
+            "const heads = Array.from(document.querySelectorAll('#heads .name'));"
+            f"const names = heads.filter((one) => one.textContent === '{name.capitalize()}');"
+            f"const lines = Array.from(document.querySelectorAll('#chart .life.{name}'));"
             "return [...names, ...lines].map((one) => one.getBoundingClientRect())"
             ".every(({left, right}) => left >= box.left - 1 && right <= box.right + 1); })()"
         )
-        expect(inside, f"{width}: the {('client', 'server')[side]} can't be reached, at the {end}")
+        expect(inside, f"{width}: the {name} can't be reached")
     sight.act("pickMessage(0)")
-    cells = sight.act("(() => Array.from(document.querySelectorAll('#list .list-row.picked > *'), (cell) => "
-                      "[cell.dataset.head, cell.scrollWidth > cell.clientWidth, cell.getBoundingClientRect().right <= "
-                      "byId('list').getBoundingClientRect().right + 1, cell.getBoundingClientRect().width]))()")  # fmt: skip
+    cells = sight.act(
+        "(() => { const edge = byId('list').getBoundingClientRect().right + 1;"
+        "return Array.from(document.querySelectorAll('#list .list-row.picked > *'), (cell) => {"
+        "const {right, width} = cell.getBoundingClientRect();"
+        "return [cell.dataset.head, cell.scrollWidth > cell.clientWidth, right <= edge, width]; }); })()"
+    )
     expect_equal(len(cells), 7, f"{width}: cells of a message")
     for head, is_cut, is_inside, cell_width in cells:
         expect(not is_cut and is_inside and cell_width >= 20, f"{width}: {head} is cut off")
@@ -1306,30 +1320,41 @@ def expect_reachable(sight, width):
 # The least contrast of the texts in view with the ground behind them, and the text that has it.
 CONTRAST = """(() => {
     const ofPart = (part) => part <= 0.04045 ? part / 12.92 : ((part + 0.055) / 1.055) ** 2.4;
-    const brightness = (colour) => { const [r, g, b] = colour.match(/[0-9.]+/g).map(Number); return 0.2126 * ofPart(r / 255) + 0.7152 * ofPart(g / 255) + 0.0722 * ofPart(b / 255); };
-    const isClear = (colour) => colour === 'transparent' || /, 0\\)$/.test(colour);
-    const ground = (node) => { for (let at = node; at; at = at.parentElement) { const colour = getComputedStyle(at).backgroundColor; if (!isClear(colour)) { return colour; } } return getComputedStyle(document.documentElement).backgroundColor; };
+    const brightness = (colour) => {
+        const [r, g, b] = colour.match(/[0-9.]+/g).map((part) => ofPart(Number(part) / 255));
+        return 0.2126 * r + 0.7152 * g + 0.0722 * b;
+    };
+    const ground = (node) => {
+        const colour = node ? getComputedStyle(node).backgroundColor : 'rgb(255, 255, 255)';
+        return colour === 'transparent' || /, 0\\)$/.test(colour) ? ground(node.parentElement) : colour;
+    };
     const walker = document.createTreeWalker(document.body, NodeFilter.SHOW_TEXT);
     let least = [99, ''];
     while (walker.nextNode()) {
-        const node = walker.currentNode.parentElement;
-        if (walker.currentNode.data.trim() === '' || node.getClientRects().length === 0 || ['SCRIPT', 'OPTION'].includes(node.tagName)) { continue; }
+        const [node, words] = [walker.currentNode.parentElement, walker.currentNode.data.trim()];
+        if (words === '' || node.getClientRects().length === 0 || ['SCRIPT', 'OPTION'].includes(node.tagName)) {
+            continue;
+        }
         const style = getComputedStyle(node);
         const [one, other] = [node.ownerSVGElement ? style.fill : style.color, ground(node)].map(brightness);
         const contrast = (Math.max(one, other) + 0.05) / (Math.min(one, other) + 0.05);
-        if (contrast < least[0]) { least = [contrast, walker.currentNode.data.slice(0, 60)]; }
+        if (contrast < least[0]) {
+            least = [contrast, words.slice(0, 60)];
+        }
     }
-    return least; })()"""
+    return least;
+})()"""
 
 
 def contrast(stage):
     """Each text differs enough from its ground, in light and dark, of an answer, a refusal and a choice."""
     shown = [expected("retransmission.txt"), expected("flipped_bit.txt")]
     scenes = [
-        {"answer": expected("retransmission.check.txt"), "shown": shown[0], "window": with_keys("retransmission", last_record=9)},
+        {"answer": expected("retransmission.check.txt"), "shown": shown[0],
+         "window": with_keys("retransmission", last_record=9)},
         {"answer": expected("flipped_bit.audit.txt"), "shown": shown[1]},
         {"one": expected("retransmission.check.txt"), "other": expected("flipped_bit.audit.txt")},
-    ]
+    ]  # fmt: skip
     for texts in scenes:
         with stage.texts(**texts) as sight:
             if "shown" in texts:
@@ -1343,11 +1368,11 @@ def contrast(stage):
 
 def long_report(stage, pairs):
     """An answer and a listing of so many pairs of data and heartbeat, as seen between two ends."""
-    answer, shown = [f"explained {3 + 2 * pairs}", "0 client make 7 1000 open", "1 server take 7", "1 server make 40 9000 reply",
-                     "2 client take 40", "2 client make 8 1010 reply"], []  # fmt: skip
+    answer = [f"explained {3 + 2 * pairs}", "0 client make 7 1000 open", "1 server take 7", "1 server make 40 9000 reply"]
+    answer += ["2 client take 40", "2 client make 8 1010 reply"]
     opening = "open 0303 20 0000000000000000"
-    for place, (side, number, kind, body) in enumerate((("client", 7, 6200, opening), ("server", 40, 6201, opening), ("client", 8, 6220, "-"))):
-        shown.append(f"{place} {place + 1} 1 {side} {number} 0 {kind} 1 1 1 1 {body} - -")
+    shown = [f"0 1 1 client 7 0 6200 1 1 1 1 {opening} - -", f"1 2 1 server 40 0 6201 1 1 1 1 {opening} - -"]
+    shown += ["2 3 1 client 8 0 6220 1 1 1 1 - - -"]
     for pair in range(pairs):
         place, clock = 3 + 2 * pair, 1020 + 10 * pair
         answer += [f"{place} client make {9 + pair} {clock} fresh", f"{place + 1} server take {9 + pair}"]
@@ -1360,13 +1385,16 @@ def long_report(stage, pairs):
 
 
 def printing(stage):
-    """On paper the verdict stands on the first page, each page of the chart has its heads, and messages are those in view."""
+    """On paper the verdict is on the first page, each page of the chart has its heads, and messages are those in view."""
     capture = EXAMPLES / "missing_packet.pcap"
     response = supposed(6213, "retransmission response", 7)
-    messages = [{"from": one, "to": other, "surely_taken": 0, "sent": 0, "not_shown": None, "messages": []} for one, other in (("client", "server"), ("server", "client"))]
-    premises = [f"A premise that is told at some length, of many words that say what this rests on, number {number}." for number in range(12)]
-    supposition = {"fillings": [[response], [supposed(6220, "heartbeat", 7)]], "gaps": [], "premises": premises, "messages": messages}
-    with stage.report(capture, capture.with_suffix(".toml"), "--seatmelon", stand_in_with(stage, supposition), "--suppose", "1") as sight:
+    messages = [{"from": one, "to": other, "surely_taken": 0, "sent": 0} for one, other in
+                (("client", "server"), ("server", "client"))]  # fmt: skip
+    premises = [f"A premise of many words that say what this rests on, told at length, number {one}." for one in range(12)]
+    fillings = [[response], [supposed(6220, "heartbeat", 7)]]
+    told_of = {"fillings": fillings, "gaps": [], "premises": premises, "messages": messages}
+    options = ("--seatmelon", stand_in_with(stage, told_of), "--suppose", "1")
+    with stage.report(capture, capture.with_suffix(".toml"), *options) as sight:
         pages = sight.printed("printed_suppose")
         expect("refused28NumberGap7client" in pages[0], f"the first page doesn't say the verdict: {pages[0][:200]}")
         expect(all(len(page) > 60 for page in pages), f"a page is empty: {[len(page) for page in pages]}")
@@ -1423,33 +1451,35 @@ def damaged_report(stage):
         sight.shot("damaged_text")
 
 
+def explaining(stage, said, classic=None):
+    """A program that explains any capture so, and converts it into this one."""
+    convert = f"[ \"$1\" = convert ] && cat '{classic}'\n" if classic else ""
+    program = stage.file("stand_in", f"#!/bin/sh\n[ \"$1\" = explain ] && echo '{json.dumps(said)}'\n{convert}exit 1\n")
+    program.chmod(0o755)
+    return program
+
+
 def pcapng_report(stage):
-    """A report of a pcapng file says that it isn't judged, or has the answer about the classic file that is made of it."""
+    """A report of a pcapng file says that it isn't judged, or has the answer about the classic file made of it."""
     capture, parameters = EXAMPLES / "pcapng/excerpt.pcapng", EXAMPLES / "excerpt.toml"
     window = {"first_record": 4, "last_record": 22, "packets_before": 3, "packets_behind": 2}
     said = {"verdict": "explained", "packets_explained": 12, "window": window}
-    script = f"#!/bin/sh\n[ \"$1\" = explain ] && echo '{json.dumps(said)}'\nexit 1\n"
-    program = stage.file("stand_in", script)
-    program.chmod(0o755)
-    with stage.report(capture, parameters, "--seatmelon", program) as sight:
+    with stage.report(capture, parameters, "--seatmelon", explaining(stage, said)) as sight:
         sight.expect_counts(verdict="refused", refused=10)
         text = sight.text("body")
         expect("Judged were only" not in text, "it is said what was judged of a file that wasn't")
         told(sight, "contradicts the answer of rasta_audit")
     classic = stage.file("excerpt.pcap", (EXAMPLES / "excerpt.pcap").read_bytes())
-    script = f"#!/bin/sh\n[ \"$1\" = explain ] && echo '{json.dumps(said)}'\n[ \"$1\" = convert ] && cat '{classic}'\nexit 0\n"
-    program = stage.file("stand_in", script)
-    program.chmod(0o755)
-    with stage.report(capture, parameters, "--seatmelon", program) as sight:
+    with stage.report(capture, parameters, "--seatmelon", explaining(stage, said, classic)) as sight:
         sight.expect_counts(verdict="explained", packets=12, notices=0)
-        told(sight, "rasta_audit read excerpt.pcap, which seatmelon convert made of excerpt.pcapng", "the packets in records 4 to 22,",
-             "convert excerpt.pcapng > excerpt.pcap")  # fmt: skip
+        told(sight, "rasta_audit read excerpt.pcap, which seatmelon convert made of excerpt.pcapng",
+             "the packets in records 4 to 22,", "convert excerpt.pcapng > excerpt.pcap")  # fmt: skip
         for path in (capture, classic):
             expect(hashlib.sha256(path.read_bytes()).hexdigest() in sight.text("#report"), f"no sum of {path.name}")
 
 
 def refused_packet(stage):
-    """The packet that is refused for its code (25) is drawn though show ends before it, and a copy (27) with its own bytes."""
+    """A packet that is refused for its code (25) is drawn though show ends before it, a copy (27) with its own bytes."""
     with stage.texts(answer=expected("flipped_bit.audit.txt"), shown=expected("flipped_bit.txt")) as sight:
         sight.expect_counts(notices=0)
         drawn = sight.act("Array.from(document.querySelectorAll('#chart g[data-kind=\"6\"]'), (g) => g.textContent)")
@@ -1461,20 +1491,21 @@ def refused_packet(stage):
         sight.settle()
         sight.shot("refused_code")
     fields = {"type": 6240, "type_name": "data", "redundancy_number": 9, "sn": 102, "cs": 500, "ts": 1020, "cts": 9000}
-    said = {"verdict": "refused", "fault": {"number": 25, "name": "Code"}, "record": {"record": 8, "time": "2026-01-01 00:00:00.000000 UTC"},
-            "packet": {"end": "client", "channel": 2, "bytes": 60, "fields": fields}, "trouble": {"code_found": "aa", "code_due": "bb"}}  # fmt: skip
-    program = stage.file("stand_in", f"#!/bin/sh\n[ \"$1\" = explain ] && echo '{json.dumps(said)}'\nexit 1\n")
-    program.chmod(0o755)
+    said = {"verdict": "refused", "fault": {"number": 25, "name": "Code"}, "record": {"record": 8, "time": None}}
+    said["packet"] = {"end": "client", "channel": 2, "bytes": 60, "fields": fields}
+    said["trouble"] = {"code_found": "aa", "code_due": "bb"}
     capture = EXAMPLES / "flipped_bit.pcap"
-    with stage.report(capture, capture.with_suffix(".toml"), "--seatmelon", program) as sight:
+    with stage.report(capture, capture.with_suffix(".toml"), "--seatmelon", explaining(stage, said)) as sight:
         drawn = sight.act("document.querySelector('#chart g[data-kind=\"6\"]').textContent")
-        expect("Refused: data" in drawn and "record 8 · no. 9 · SN 102 · CS 500" in drawn, f"the refused packet: {drawn}")
+        for words in ("Refused: data", "record 8 · no. 9 · SN 102 · CS 500"):
+            expect(words in drawn, f"the refused packet: {drawn}")
         sight.act("pickRow(state.chart.story.rows - 1)")
         details = sight.text("#details")
         expect("Code due" in details and "bb" in details, f"its details: {details}")
     copy = expected("late_copies.txt").splitlines()
     packets = [line.split(" ") for line in copy[:-1]]
-    at = next(place for place, one in enumerate(packets) if one[6] == "6240" and any(one[3:5] == other[3:5] for other in packets[:place]))
+    copies = [place for place, one in enumerate(packets) if any(one[3:5] == other[3:5] for other in packets[:place])]
+    at = next(place for place in copies if packets[place][6] == "6240")
     words = packets[at]
     first = next(one for one in packets if one[3:5] == words[3:5])
     words[12] = ("0" if words[12][0] != "0" else "1") + words[12][1:]
@@ -1482,9 +1513,11 @@ def refused_packet(stage):
     with stage.texts(answer=f"refused 27 CopyDiffers {words[1]} {words[3]}\n", shown=shown) as sight:
         sight.expect_counts(notices=0)
         drawn = sight.act(f"document.querySelector('#chart g[data-row=\"{at + 1}\"]').textContent")
-        expect(words[12][:8].split(",")[0] in drawn and f"not as place {first[0]}" in drawn, f"the copy's own bytes: {drawn}")
+        for own in (words[12][:8].split(",")[0], f"not as place {first[0]}"):
+            expect(own in drawn, f"the copy's own bytes: {drawn}")
         sight.act(f"goToPlace({at})")
-        expect(re.search(r"Differs in\s+body", sight.text("#details")), f"what differs: {sight.text('#details')[-300:]}")
+        details = sight.text("#details")
+        expect(re.search(r"Differs in\s+body", details), f"what differs: {details[-300:]}")
         sight.page.resize(1280, 1700)
         sight.settle()
         sight.shot("refused_copy")
@@ -1505,9 +1538,10 @@ def long_clocks(stage):
                 sight.page.resize(width, 900)
                 sight.settle()
                 found = sight.act(
-                    f"Array.from(document.querySelectorAll('#chart text')).filter((one) => one.textContent.startsWith('{str(clock)[:5]}'))"
-                    ".map((one) => { const {x, width} = one.getBBox(); const all = Number(one.ownerSVGElement.getAttribute('width'));"
-                    "return [one.textContent, x >= 0 && x + width <= all]; })"
+                    "Array.from(document.querySelectorAll('#chart text'))"
+                    f".filter((one) => one.textContent.startsWith('{str(clock)[:5]}'))"
+                    ".map((one) => { const {x, width} = one.getBBox();"
+                    "return [one.textContent, x >= 0 && x + width <= Number(one.ownerSVGElement.getAttribute('width'))]; })"
                 )
                 expect_equal([is_whole for _, is_whole in found], [True] * 3, f"clocks at {width}: {found}")
                 expect({text for text, _ in found} == {str(clock), str(clock + 10)}, f"clocks: {found}")
@@ -1589,7 +1623,7 @@ def main():
     asked = argparse.ArgumentParser(description="Tests the viewer in a browser.")
     asked.add_argument("--program", type=pathlib.Path, default=PROGRAM)
     asked.add_argument("--browser", help="the browser's program")
-    asked.add_argument("--only", metavar="WORD", action="append", help="only stories whose name has this word, or one of these")
+    asked.add_argument("--only", metavar="WORD", action="append", help="only stories whose name has one of these words")
     asked.add_argument("--renew", action="store_true", help="write the hashes of the page's policy anew")
     asked.add_argument("folder", type=pathlib.Path, nargs="?")
     words = asked.parse_args()
