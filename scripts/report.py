@@ -203,6 +203,12 @@ def contradicts(explanation, verdict):
     return is_of_record and record is not None and int(words[3]) != record
 
 
+def is_of_other_files(explanation, capture, parameters):
+    """Whether an explanation names other sums than those of the files as they are now, as where one changed meanwhile."""
+    told = [(explanation.get(key) or {}).get("sha256") for key in ("capture", "parameters")]
+    return any(one and one != sum_of(path) for one, path in zip(told, (capture, parameters)))
+
+
 def refusal_in(explanation):
     """The refused record, what it holds and what is wrong with it, where a capture is refused."""
     if explanation.get("verdict") not in REFUSED:
@@ -264,7 +270,9 @@ def report_of(asked, folder):
     by_certificate = ("check", capture, parameters, certificate)
     status, verdict = answer_of(program, *(by_certificate if certificate else ("audit", capture, parameters)))
     explanation = explanation_of(asked.seatmelon, capture, parameters, asked.certificate, asked.suppose)
-    is_contradicted = bool(explanation) and contradicts(explanation, verdict)
+    is_contradicted = bool(explanation) and (
+        contradicts(explanation, verdict) or is_of_other_files(explanation, capture, parameters)
+    )
     if is_contradicted:
         explanation = {}
     texts = [

@@ -1448,6 +1448,8 @@ def damaged_report(stage):
     with Sight(stage, stage.file("damaged_text.html", changed_text)) as sight:
         sight.page.wait_until(lambda: sight.counts().get("sums") == "differ", "the sums to be compared")
         told(sight, "has another sum than the report names")
+        sight.expect_counts(verdict="", packets=0)
+        expect(sight.act("document.querySelectorAll('#verdict .explained').length") == 0 or sight.act("byId('verdict').hidden"), "a tick")
         sight.shot("damaged_text")
 
 
@@ -1476,6 +1478,25 @@ def pcapng_report(stage):
              "the packets in records 4 to 22,", "convert excerpt.pcapng > excerpt.pcap")  # fmt: skip
         for path in (capture, classic):
             expect(hashlib.sha256(path.read_bytes()).hexdigest() in sight.text("#report"), f"no sum of {path.name}")
+
+
+def contradicted_report(stage):
+    """What seatmelon says of other files, or other than the answer, isn't on the page, and that is said."""
+    capture = EXAMPLES / "missing_packet.pcap"
+    refused = {"verdict": "refused", "fault": {"number": 28, "name": "NumberGap"}, "record": {"record": 7, "time": "2026"}}
+    right = {"sha256": hashlib.sha256(capture.read_bytes()).hexdigest()}
+    for name, said in (
+        ("nothing", {**refused, "capture": right}),
+        ("sums", {**refused, "capture": {"sha256": "00" * 32}}),
+        ("record", {**refused, "record": {"record": 8, "time": "2026"}}),
+        ("number", {**refused, "fault": {"number": 25, "name": "Code"}}),
+        ("verdict", {"verdict": "explained", "packets_explained": 11}),
+        ("packets", {"verdict": "no_packets"}),
+    ):
+        with stage.report(capture, capture.with_suffix(".toml"), "--seatmelon", explaining(stage, said)) as sight:
+            sight.expect_counts(verdict="refused", refused=28, notices=0 if name == "nothing" else 1)
+            expect_equal("captured 2026" in sight.text("#verdict"), name == "nothing", f"{name}: what seatmelon says is there")
+            expect_equal("contradicts the answer" in sight.text("#notices"), name != "nothing", f"{name}: it is said")
 
 
 def refused_packet(stage):
@@ -1589,7 +1610,7 @@ STORIES = [policy_is_closed, times_and_numbers, supposed_pdus, places_of_a_repor
            answer_beside_report, three_answers, foreign_parameters, foreign_listing, several_listings, foreign_certificate,
            refused_explanation,
            parameters_alone, line_ends, chosen_again, newlines, spelled_numbers, every_size, contrast, printing, damaged_report,
-           pcapng_report, refused_packet, long_clocks, places_that_are_none, first_hit]  # fmt: skip
+           pcapng_report, contradicted_report, refused_packet, long_clocks, places_that_are_none, first_hit]  # fmt: skip
 
 
 def all_stories(stage):
