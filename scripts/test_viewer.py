@@ -291,6 +291,16 @@ def expect_report(sight, answer, shown):
         sight.expect_counts(verdict="refused", refused=number, packets=len(packets), messages=messages, **wanted)
         expect_equal(title_of(sight), title_for(number), "title")
     sight.expect_drawn(messages=messages, **{key: wanted[key] for key in ("takes", "copies", "makes")})
+    expect_agreement(sight)
+
+
+def expect_agreement(sight):
+    """Texts of the same files contradict each other in nothing, where the page isn't told that they are."""
+    said = sight.act(
+        "(() => { const {report} = state; state.report = null; showAll(); const {aside} = state.model;"
+        "state.report = report; showAll(); return [...aside.values()]; })()"
+    )
+    expect_equal(said, [], "what texts of the same files contradict")
 
 
 def expect_svg(sight):
@@ -420,6 +430,7 @@ def changed(stage, name, story):
         if suffix != "toml":
             sight.page.resize(1280, 1500)
             sight.settle()
+            expect_agreement(sight)
             marks = sight.act("state.chart.story.mark ? 1 : 0")
             expect_equal(marks, 0 if name == "no_certificate" else 1, "marks in the chart")
         sight.shot(f"changed_{name}")
