@@ -101,12 +101,10 @@ def classic_capture(asked, folder):
     """The capture as rasta_audit reads it: of a pcapng file what `seatmelon convert` makes of it, where that is there."""
     if not is_pcapng(asked.capture) or not asked.seatmelon.is_file():
         return asked.capture
-    call = subprocess.run([asked.seatmelon.resolve(), "convert", "--", asked.capture], capture_output=True)
-    if not call.stdout:
-        return asked.capture
     path = folder / f"{asked.capture.stem}.pcap"
-    path.write_bytes(call.stdout)
-    return path
+    with open(path, "wb") as file:
+        subprocess.run([asked.seatmelon.resolve(), "convert", "--", asked.capture], stdout=file, stderr=subprocess.DEVNULL)
+    return path if path.stat().st_size > 0 else asked.capture
 
 
 def sum_of(path):
