@@ -185,6 +185,7 @@ class Sight:
     def __init__(self, stage, path):
         self.stage = stage
         self.page = stage.browser.open(path.as_uri(), 1280, 1000)
+        self.settle()
 
     def __enter__(self):
         return self
