@@ -1,10 +1,10 @@
 //! What explains a capture together with supposed PDUs.
-ghost use Rattle.std.specs.Prelude.{◌≡◌, List, map, IfOk, IfSome, IfErr, OnOk};
+ghost use Rattle.std.specs.Prelude.{◌≡◌, ◌↔◌, ℕ, All, IsTrue, List, map, IfOk, IfSome, IfErr, OnOk};
 ghost use Rattle.rasta_pcap.specs.Fault.{no_memory};
 ghost use Rattle.rasta_check.specs.Verdict.Listed.{listed_of};
 ghost use Rattle.rasta_pdu.specs.Params.{Parameters};
 ghost use Rattle.seatmelon_reading.specs.Tapes.{NumberedPacket, taped_as};
-ghost use Rattle.seatmelon_suppose.specs.Filling.{Adds, AreLists, IsFilling, IsJudged, captured_messages, first_captured, origin_at, shown_at};
+ghost use Rattle.seatmelon_suppose.specs.Filling.{Adds, AreLists, IsFilling, IsInside, IsJudged, MayBeJudged, captured_messages, first_captured, origin_at, shown_at};
 
 use crate::mending::{Mended, mend};
 use crate::supposed::Supposed;
@@ -49,7 +49,9 @@ pub struct Judged {
 impl Judged {
     /// The filling alone.
     pub fn into_filling(self) -> Filling
-        ensures { (p : Parameters) (packets : List NumberedPacket) → IsJudged p packets self → IsFilling p packets result }
+        ensures same { result ≡ self.filling }
+        ensures judged { (p : Parameters) (packets : List NumberedPacket) (most : ℕ) → IsJudged p packets most self
+            → IsFilling p packets most result }
     {
         let Judged { filling, .. } = self;
         filling
@@ -157,16 +159,34 @@ fn checked(
     }))
 }
 
-/// What is surely taken where these PDUs were missed, if the packets are explained together with them. Refused by
-/// [`Fault::NO_MEMORY`] alone.
+// Whether each PDU is supposed before a captured packet.
+fn are_inside(packets: &[Taped], pdus: &[Supposed]) -> bool
+    ensures { IsTrue result ↔ All (IsInside (map taped_as packets.now)) pdus.now }
+{
+    pdus.iter().all(|supposed| supposed.before < packets.len())
+}
+
+// Whether so many PDUs at most are supposed, each before a captured packet.
+fn may_be_judged(packets: &[Taped], most: u32, pdus: &[Supposed]) -> bool
+    ensures { IsTrue result ↔ MayBeJudged (map taped_as packets.now) most pdus.now }
+{
+    pdus.len() <= most as usize && are_inside(packets, pdus)
+}
+
+/// What is surely taken where these PDUs were missed, so many at most, if the packets are explained together with them.
+/// Refused by [`Fault::NO_MEMORY`] alone.
 pub fn judge_filling(
     alloc: Global,
     params: &Params,
     packets: &[Taped],
+    most: u32,
     pdus: Vec<Supposed>,
 ) -> Result<Option<Judged>, Fault>
-    ensures { IfOk result (λ judged. IfSome judged (IsJudged params.now (map taped_as packets.now))) }
+    ensures { IfOk result (λ judged. IfSome judged (IsJudged params.now (map taped_as packets.now) most)) }
 {
+    if !may_be_judged(packets, most, &pdus) {
+        return Ok(None);
+    }
     let mended = mend(alloc, params, packets, packets, &pdus)?;
     if mended.stop.is_some() {
         return Ok(None);

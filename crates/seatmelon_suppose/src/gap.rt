@@ -1,4 +1,7 @@
 //! Gaps in the numbers of an end.
+ghost use Rattle.std.specs.Prelude.{◌≡◌};
+ghost use Rattle.rasta_check.specs.Capture.Crossing.{sent_by};
+
 use crate::mending::Mended;
 use crate::supposed::Fields;
 use rasta_check::{SentList, SpanList, Store};
@@ -26,7 +29,9 @@ pub struct Gap {
 }
 
 /// What an end sent.
-pub fn list_of(store: &Store, side: Side) -> SpanList<'_> {
+pub fn list_of(store: &Store, side: Side) -> SpanList<'_>
+    ensures { result ≡ sent_by store.now side }
+{
     match side {
         Side::Client => store.client(),
         Side::Server => store.server(),

@@ -1,27 +1,25 @@
 //! What is supposed of a capture, as a hypothesis.
-ghost use Rattle.std.specs.Prelude.{◌≡◌, ◌∷◌, ◌++◌, [], All, List, map, IfErr, IfOk, OnOk};
+ghost use Rattle.std.specs.Prelude.{◌≡◌, ◌∷◌, ◌++◌, [], ℕ, List, map, IfErr, IfOk, OnOk};
 ghost use Rattle.rasta_pcap.specs.Fault.{no_memory};
 ghost use Rattle.rasta_pdu.specs.Params.{Parameters};
 ghost use Rattle.seatmelon_reading.specs.Tapes.{NumberedPacket, taped_as};
-ghost use Rattle.seatmelon_suppose.specs.Filling.{IsFilling};
-ghost use Rattle.seatmelon_suppose.specs.Supposition.{IsSupposition};
+ghost use Rattle.seatmelon_suppose.specs.Supposition.{AddsJudged, IsSupposition};
 
 use crate::common::common;
-use crate::filling::{Filling, Judged, Listed, judge_filling, origin_at};
-use crate::gap::list_of;
+use crate::filling::{Filling, Listed, judge_filling};
 use crate::search::{Filled, Found, Tried, look_for};
+use crate::sent::{SentMessage, sent_by};
 use crate::supposed::Supposed;
-use rasta_check::{SentList, SpanList};
 use rasta_pcap::{Fault, Side};
-use rasta_pdu::{Kind, Params};
+use rasta_pdu::Params;
 use seatmelon_reading::Taped;
 use std::alloc::{AllocError, Global};
 
 /// The messages of an end.
 #[derive(Drop)]
 pub struct Messages {
-    /// Where the data of each was captured, of all that it sent by the first filling, in order; none of a supposed PDU.
-    pub sent: Vec<Option<usize>>,
+    /// All that it sent by the first filling, in order.
+    pub sent: Vec<SentMessage>,
 
     /// The first ones of captured data, which were surely taken under each filling.
     pub taken: Vec<Listed>,
@@ -54,12 +52,13 @@ fn add(fillings: &mut Vec<Filling>, filling: Filling) -> Result<(), AllocError>
     }
 }
 
-// The ways to fill the gaps of packets.
+// The ways to fill the gaps of packets, by so many PDUs at most.
 #[derive(Clone, Copy)]
 struct Ways<'a> {
     alloc: Global,
     params: &'a Params,
     packets: &'a [Taped],
+    most: u32,
     gaps: &'a [Filled],
 }
 
@@ -85,14 +84,15 @@ impl Ways<'_> {
         way: &Tried,
         fillings: &mut Vec<Filling>,
     ) -> Result<(), Fault>
-        ensures { OnOk result (All (IsFilling self.entry.params.now (map taped_as self.entry.packets.now)) fillings.old.items
-            → All (IsFilling self.entry.params.now (map taped_as self.entry.packets.now)) fillings.new.items) }
+        ensures { OnOk result (AddsJudged self.entry.params.now (map taped_as self.entry.packets.now) self.entry.most
+            fillings.old.items fillings.new.items) }
     {
         if !gap.is_other(way) {
             return Ok(());
         }
         let pdus = self.pdus_with(number, way)?;
-        let Some(judged) = judge_filling(self.alloc, self.params, self.packets, pdus)? else {
+        let Some(judged) = judge_filling(self.alloc, self.params, self.packets, self.most, pdus)?
+        else {
             return Ok(());
         };
         add(fillings, judged.into_filling())?;
@@ -106,8 +106,8 @@ impl Ways<'_> {
         gap: &Filled,
         fillings: &mut Vec<Filling>,
     ) -> Result<(), Fault>
-        ensures { OnOk result (All (IsFilling self.entry.params.now (map taped_as self.entry.packets.now)) fillings.old.items
-            → All (IsFilling self.entry.params.now (map taped_as self.entry.packets.now)) fillings.new.items) }
+        ensures { OnOk result (AddsJudged self.entry.params.now (map taped_as self.entry.packets.now) self.entry.most
+            fillings.old.items fillings.new.items) }
     {
         for way in &gap.tried {
             self.add_way(number, gap, way, fillings)?;
@@ -115,10 +115,10 @@ impl Ways<'_> {
         Ok(())
     }
 
-    // The fillings, of which the first was judged.
+    // The fillings, of which this is the first.
     fn fillings(self, first: Filling) -> Result<Vec<Filling>, Fault>
-        requires { IsFilling self.params.now (map taped_as self.packets.now) first }
-        ensures { IfOk result (λ fillings. All (IsFilling self.entry.params.now (map taped_as self.entry.packets.now)) fillings.items) }
+        ensures { IfOk result (λ fillings. AddsJudged self.entry.params.now (map taped_as self.entry.packets.now) self.entry.most
+            (first ∷ []) fillings.items) }
     {
         let mut fillings = Vec::new(self.alloc);
         add(&mut fillings, first)?;
@@ -129,27 +129,9 @@ impl Ways<'_> {
     }
 }
 
-// Where the data of each message was captured, of all that an end sent.
-fn sent_by(alloc: Global, judged: &Judged, sender: Side) -> Result<Vec<Option<usize>>, AllocError> {
-    let list = list_of(&judged.store, sender);
-    let mut sent = Vec::new(alloc);
-    for position in 0..list.len() {
-        let Some((place, pdu)) = list.get(position) else {
-            break;
-        };
-        if pdu.kind().is(Kind::Data) {
-            let origin = origin_at(&judged.origins, place);
-            for _message in pdu.messages() {
-                sent.push(origin)?;
-            }
-        }
-    }
-    Ok(sent)
-}
-
 // Of no filling.
 fn unfilled(alloc: Global, found: Found) -> Supposition
-    ensures { (p : Parameters) (packets : List NumberedPacket) → IsSupposition p packets result }
+    ensures { (p : Parameters) (packets : List NumberedPacket) (most : ℕ) → IsSupposition p packets most result }
 {
     let Found {
         gaps,
@@ -180,7 +162,7 @@ fn supposed(
     packets: &[Taped],
     most: u32,
 ) -> Result<Supposition, Fault>
-    ensures { IfOk result (IsSupposition params.now (map taped_as packets.now)) }
+    ensures { IfOk result (IsSupposition params.now (map taped_as packets.now) most) }
 {
     let found = look_for(alloc, params, packets, most)?;
     if found.pdus.is_empty() {
@@ -188,7 +170,7 @@ fn supposed(
     }
     let mut pdus = Vec::new(alloc);
     pdus.extend_from_slice(&found.pdus)?;
-    let Some(first) = judge_filling(alloc, params, packets, pdus)? else {
+    let Some(first) = judge_filling(alloc, params, packets, most, pdus)? else {
         return Ok(unfilled(alloc, found));
     };
     let client_sent = sent_by(alloc, &first, Side::Client)?;
@@ -197,6 +179,7 @@ fn supposed(
         alloc,
         params,
         packets,
+        most,
         gaps: &found.gaps,
     };
     let fillings = ways.fillings(first.into_filling())?;
@@ -232,7 +215,7 @@ pub fn suppose(
     packets: &[Taped],
     most: u32,
 ) -> Result<Supposition, Fault>
-    ensures supposed { IfOk result (IsSupposition params.now (map taped_as packets.now)) }
+    ensures supposed { IfOk result (IsSupposition params.now (map taped_as packets.now) most) }
     ensures err { IfErr result (λ f. f ≡ no_memory) }
 {
     match supposed(alloc, params, packets, most) {
