@@ -1,3 +1,4 @@
 pub mod Differing
 pub mod SentMessages
 pub mod Told
+pub mod Suppositions

@@ -1,5 +1,6 @@
 -- What an account tells of what was read.
-use Rattle.std.specs.Prelude.{◌≡◌, ℕ, List, [], ◌∷◌, length, take, filter, Option, None, Some, IfSome, option_map}
+use Rattle.std.specs.Prelude.{◌≡◌, ◌↔◌, ◌<◌, ℕ, List, [], ◌∷◌, length, take, filter, nat_lt, Option, None, Some, IfSome}
+use Rattle.std.specs.Prelude.{IsSome, option_map, unwrap_or}
 use Rattle.sha2.specs.Sha256.{sha256}
 use Rattle.rasta_pcap.specs.declared.fault.Side.TheVariants.{Client, Server}
 use Rattle.rasta_pdu.specs.Params.{Parameters}
@@ -11,36 +12,55 @@ use Rattle.seatmelon_reading.specs.declared.notes.Sighting.{Sighting}
 use Rattle.seatmelon_reading.specs.declared.reading.Reading.{Reading}
 use Rattle.seatmelon_reading.specs.declared.silence.Silence.{Silence}
 use Rattle.seatmelon_reading.specs.Silences.{IsLongestSilence, is_untimed}
+use Rattle.seatmelon_reading.specs.Window as windows
+use Rattle.seatmelon_reading.specs.Window.{IsBounded}
 use Rattle.seatmelon_account.specs.Hypotheses.{IsHypothesis}
 use Rattle.seatmelon_account.specs.Messages.{IsDirection}
 use Rattle.seatmelon_account.specs.Offers.{AreOffers}
 use Rattle.seatmelon_account.specs.Refusals.{TellsPlace, TellsRecord}
+use Rattle.seatmelon_account.specs.Starts.{start_in}
 use Rattle.seatmelon_account.specs.declared.account.Account.{Account}
 use Rattle.seatmelon_account.specs.declared.account.File.{File}
 use Rattle.seatmelon_account.specs.declared.account.Inputs.{Inputs}
 use Rattle.seatmelon_account.specs.declared.account.Verdict.{Verdict}
+use Rattle.seatmelon_account.specs.declared.explained.Explained.{Explained}
 use Rattle.seatmelon_account.specs.declared.refusal.Refusal.{Refusal}
-use Rattle.seatmelon_account.specs.declared.account.Verdict.TheVariants.{NoPackets, Refused, Explained}
+use Rattle.seatmelon_account.specs.declared.account.Verdict.TheVariants as verdicts
 
--- the fault that is told is that of the capture, with its record, or that of the verdict on what crossed, with its
--- place
+-- the fault that is told is that of the capture, with its record, or that of the verdict on what crossed, if anything
+-- did, with what it speaks of
 abbrev pub IsToldRefusal : Parameters → Crossing → Option CaptureRefusal → Option (List ℕ) → Refusal → Type 0
 IsToldRefusal p k (Some refusal) text told = (told.fault ≡ refusal.fault) × TellsRecord p k refusal told.subject
-IsToldRefusal p k None text told = IsRefusedBy k text told.fault × TellsPlace k told.fault told.subject
+IsToldRefusal p k None text told = (0 < length k.packets) × IsRefusedBy k text told.fault
+    × TellsPlace k text told.fault told.subject
 
--- the verdict, and what is told of it
-abbrev pub IsToldOf : Parameters → Crossing → Option CaptureRefusal → Option (List ℕ) → Verdict → Type 0
-IsToldOf p k refusal text NoPackets = (refusal ≡ None) × (length k.packets ≡ 0)
-IsToldOf p k refusal text (Refused told) = IsToldRefusal p k refusal text told
-IsToldOf p k refusal text (Explained e) = (refusal ≡ None) × ((report : reports.Explained) × IsExplainedBy k text report
-    × (e.packets ≡ report.packets) × IsDirection k.client report.server_taken e.client
-    × IsDirection k.server report.client_taken e.server)
+-- what explains the packets that crossed, where so many packets of the recorded channels stand before the window
+pub record IsToldExplained (p : Parameters) (k : Crossing) (before : ℕ) (text : Option (List ℕ))
+    (e : Explained) : Type 0 where
+  pub crossed : 0 < length k.packets
+  pub report : reports.Explained
+  pub answered : IsExplainedBy k text report
+  pub packets : e.packets ≡ report.packets
+  pub has_code : e.has_code ≡ nat_lt 0 p.code_length
+  pub start : e.start ≡ start_in p before
+  pub client : IsDirection Client k.client report.server_taken e.client
+  pub server : IsDirection Server k.server report.client_taken e.server
+
+-- the verdict, and what is told of it: no packets exactly where none crossed and the capture has no fault
+abbrev pub IsToldOf : Parameters → Crossing → ℕ → Option CaptureRefusal → Option (List ℕ) → Verdict → Type 0
+IsToldOf p k before refusal text verdicts.NoPackets = (refusal ≡ None) × (length k.packets ≡ 0)
+IsToldOf p k before refusal text (verdicts.Refused told) = IsToldRefusal p k refusal text told
+IsToldOf p k before refusal text (verdicts.Explained e) = (refusal ≡ None) × IsToldExplained p k before text e
 
 abbrev pub text_in : Inputs → Option (List ℕ)
 text_in i = option_map (λ text. text.now) i.texts.certificate
 
 abbrev pub sum_of : File → List ℕ
 sum_of file = file.sum
+
+-- how many PDUs may be supposed
+abbrev pub most_in : Inputs → ℕ
+most_in i = unwrap_or i.suppose 0
 
 -- the longest silence of the client, and that of the server
 abbrev pub AreSilences : List Sighting → List (Option Silence) → Type 0
@@ -50,14 +70,17 @@ AreSilences packets other = ⊥
 
 -- this is told of what was read
 pub record IsAccount (i : Inputs) (r : Reading) (a : Account) : Type 0 where
-  pub capture : a.capture.sum ≡ r.digest
-  pub parameters : a.parameters.sum ≡ sha256 i.texts.parameters.now
+  pub capture : (a.capture.name.now ≡ i.names.capture.now) × (a.capture.sum ≡ r.digest)
+  pub parameters : (a.parameters.name.now ≡ i.names.parameters.now)
+      × (a.parameters.sum ≡ sha256 i.texts.parameters.now)
   pub certificate : option_map sum_of a.certificate ≡ option_map sha256 (text_in i)
   pub header : a.header ≡ r.header
   pub format : a.format ≡ r.format
   pub params : a.params.now ≡ i.params.now
   pub without : a.without.now ≡ i.without.now
   pub records : a.records ≡ r.notes.records
+  pub bounded : IsSome a.window ↔ IsBounded i.params.now
+  pub window : IfSome a.window (windows.IsToldOf i.params.now r.notes.records)
   pub packets : a.packets.now ≡ r.notes.packets.items
   pub channels : a.channels.now ≡ take (length i.params.now.channels) r.notes.channels
   pub before : a.before ≡ r.notes.before
@@ -67,5 +90,5 @@ pub record IsAccount (i : Inputs) (r : Reading) (a : Account) : Type 0 where
   pub untimed : a.untimed ≡ length (filter is_untimed r.notes.packets.items)
   pub silences : AreSilences r.notes.packets.items a.silences
   pub offers : AreOffers i.params.now.n_sendmax r.store a.offers
-  pub verdict : IsToldOf i.params.now r.store r.refusal (text_in i) a.verdict
-  pub hypothesis : IfSome a.hypothesis (IsHypothesis i.params.now r.notes.tape)
+  pub verdict : IsToldOf i.params.now r.store r.notes.before r.refusal (text_in i) a.verdict
+  pub hypothesis : IfSome a.hypothesis (IsHypothesis i.params.now r.notes (most_in i))

@@ -1,12 +1,14 @@
 pub mod Account
 pub mod Crossed
-pub mod Deadlines
 pub mod Differences
+pub mod Entries
 pub mod Gaps
 pub mod Hypotheses
 pub mod Layouts
 pub mod Messages
 pub mod Offers
 pub mod Refusals
+pub mod Rules
 pub mod Selection
+pub mod Starts
 pub mod Troubles

@@ -1,6 +1,7 @@
 -- The messages that an end sent, as they are told.
 use Rattle.std.specs.Prelude.{◌≡◌, ℕ, ◌-◌, List, map, length, take, filter_map, flat_map, slice_get, Option, None, Some}
 use Rattle.std.specs.Prelude.{is_some, option_map, nat_lt, if◌then◌else◌}
+use Rattle.rasta_pcap.specs.declared.fault.Side.{Side}
 use Rattle.rasta_pdu.specs.Pdu.{messages_in}
 use Rattle.rasta_check.specs.Capture.SentLists.{FirstCopy}
 use Rattle.rasta_check.specs.Model.Taken.{data_copies}
@@ -44,7 +45,10 @@ pub record AreMessages (sent : List FirstCopy) (listed : List ListedMessage) (me
 abbrev pub AreFirstTaken : ℕ → List Message → Type 0
 AreFirstTaken taken messages = (i : ℕ) (m : Message) → slice_get messages i ≡ Some m → is_some m.proof ≡ nat_lt i taken
 
-pub record IsDirection (sent : List FirstCopy) (listed : List ListedMessage) (d : Direction) : Type 0 where
+-- the messages of an end, which sent these first copies
+pub record IsDirection (sender : Side) (sent : List FirstCopy) (listed : List ListedMessage)
+    (d : Direction) : Type 0 where
+  pub end : d.sender ≡ sender
   pub count : d.taken ≡ length listed
   pub messages : AreMessages sent listed d.messages.items
   pub first : AreFirstTaken d.taken d.messages.items

@@ -1,14 +1,15 @@
 -- What is told to be wrong with the packet of a refused record.
 use Rattle.std.specs.Prelude.{◌≡◌, ℕ, ◌+◌, ◌-◌, ◌==◌, ◌&&◌, ◌||◌, Bool, true, false, List, length, take, slice_range}
-use Rattle.std.specs.Prelude.{Option, None, Some, option_map, ⊤}
-use Rattle.std.specs.Option.{ForSome}
+use Rattle.std.specs.Prelude.{[], ◌∷◌, ◌⊎◌, nat_eq, Option, None, Some, option_map, unwrap_or}
+use Rattle.std.specs.List.{list_any}
 use Rattle.rasta_md4.specs.Md4.{md4}
 use Rattle.rasta_pcap.specs.declared.fault.Fault.{Fault}
-use Rattle.rasta_pcap.specs.Fault.{safety_length, too_short, wrong_payload}
+use Rattle.rasta_pcap.specs.Fault.{copy_differs, number_gap, redundancy_length, safety_length, too_short, wrong_code}
+use Rattle.rasta_pcap.specs.Fault.{wrong_ids, wrong_payload, wrong_type}
 use Rattle.rasta_udp.specs.Frame.{Packet, packet_in}
 use Rattle.rasta_pdu.specs.Params.{Parameters}
 use Rattle.rasta_pdu.specs.Fields.{field_at}
-use Rattle.rasta_pdu.specs.Pdu.{check_at, code_at, receiver_of, sender_of}
+use Rattle.rasta_pdu.specs.Pdu.{check_at, code_at, has_fields, receiver_of, sender_of}
 use Rattle.rasta_check.specs.Capture.Crossing.{Crossing, sent_by}
 use Rattle.rasta_check.specs.Capture.Reading.{packet_found}
 use Rattle.seatmelon_packets.specs.Features.{features_by}
@@ -23,6 +24,7 @@ use Rattle.seatmelon_account.specs.Differences.{differing}
 use Rattle.seatmelon_account.specs.Gaps.{IsGap}
 use Rattle.seatmelon_account.specs.Layouts.{IsLayout}
 use Rattle.seatmelon_account.specs.declared.differences.Codes.{Codes}
+use Rattle.seatmelon_account.specs.declared.gap.Gap.{Gap}
 use Rattle.seatmelon_account.specs.declared.refusal.RefusedPacket.{RefusedPacket}
 use Rattle.seatmelon_account.specs.declared.trouble.FirstCopy.{FirstCopy}
 use Rattle.seatmelon_account.specs.declared.trouble.Trouble.{Trouble}
@@ -44,23 +46,40 @@ TellsOther r datagram (Some first) = (beside : Beside) × (r.beside ≡ Some bes
     × (first.bytes.now ≡ beside.bytes.items)
     × (first.differences.items ≡ take 16 (differing 0 datagram beside.bytes.items))
 
--- what is told of a packet with these parameters, behind what crossed
+-- the codes are told where the datagram is long enough for them
+abbrev pub TellsCodes : Parameters → List ℕ → Option Codes → Type 0
+TellsCodes p datagram None = has_fields p datagram ≡ false
+TellsCodes p datagram (Some codes) = AreCodes p datagram codes
+
+-- the gap is told where the end of this packet sent something before it, and its datagram goes so far
+abbrev pub TellsGap : Crossing → CaptureRefusal → Packet → Option Gap → Type 0
+TellsGap k r packet None = (length (sent_by k packet.side) ≡ 0) ⊎ (field_at 4 4 packet.payload ≡ None)
+TellsGap k r packet (Some gap) = IsGap (sent_by k packet.side) (has_opening k) packet.payload gap
+    × (gap.later ≡ option_map sighting_beside r.beside)
+
+-- the faults of a packet that say more than their number does
+abbrev pub faults_told : List ℕ
+faults_told = wrong_code ∷ copy_differs ∷ number_gap ∷ wrong_ids ∷ redundancy_length ∷ too_short ∷ safety_length
+    ∷ wrong_type ∷ wrong_payload ∷ []
+
+-- what is told of a packet with these parameters, behind what crossed, each by the number of its fault
 abbrev pub TellsTrouble : Parameters → Crossing → CaptureRefusal → Packet → Trouble → Type 0
-TellsTrouble p k r packet (troubles.Gap None) = ⊤
-TellsTrouble p k r packet (troubles.Gap (Some gap)) =
-    IsGap (sent_by k packet.side) (has_opening k) packet.payload gap × (gap.later ≡ option_map sighting_beside r.beside)
-TellsTrouble p k r packet (troubles.Code codes first) = ForSome codes (AreCodes p packet.payload)
-    × TellsOther r packet.payload first
-TellsTrouble p k r packet (troubles.Copy first) = TellsOther r packet.payload first
-TellsTrouble p k r packet (troubles.Ids receiver sender) = (receiver ≡ receiver_of p packet.side)
-    × (sender ≡ sender_of p packet.side)
-TellsTrouble p k r packet (troubles.Length due) = due ≡ length packet.payload
-TellsTrouble p k r packet (troubles.TooShort least) = least ≡ 36 + p.code_length + p.check_length
-TellsTrouble p k r packet (troubles.SafetyLength due) = due ≡ check_at p packet.payload - 8
-TellsTrouble p k r packet (troubles.Type found) =
-    ForSome (field_at 2 10 packet.payload) (λ (number : ℕ). found ≡ number)
-TellsTrouble p k r packet (troubles.Payload layout) = IsLayout p packet.payload layout
-TellsTrouble p k r packet troubles.Other = ⊤
+TellsTrouble p k r packet (troubles.Code codes first) = (r.fault.number ≡ wrong_code)
+    × TellsCodes p packet.payload codes × TellsOther r packet.payload first
+TellsTrouble p k r packet (troubles.Copy first) = (r.fault.number ≡ copy_differs) × TellsOther r packet.payload first
+TellsTrouble p k r packet (troubles.Gap gap) = (r.fault.number ≡ number_gap) × TellsGap k r packet gap
+TellsTrouble p k r packet (troubles.Ids receiver sender) = (r.fault.number ≡ wrong_ids)
+    × (receiver ≡ receiver_of p packet.side) × (sender ≡ sender_of p packet.side)
+TellsTrouble p k r packet (troubles.Length due) = (r.fault.number ≡ redundancy_length) × (due ≡ length packet.payload)
+TellsTrouble p k r packet (troubles.TooShort least) = (r.fault.number ≡ too_short)
+    × (least ≡ 36 + p.code_length + p.check_length)
+TellsTrouble p k r packet (troubles.SafetyLength due) = (r.fault.number ≡ safety_length)
+    × (due ≡ check_at p packet.payload - 8)
+TellsTrouble p k r packet (troubles.Type found) = (r.fault.number ≡ wrong_type)
+    × (found ≡ unwrap_or (field_at 2 10 packet.payload) 0)
+TellsTrouble p k r packet (troubles.Payload layout) = (r.fault.number ≡ wrong_payload)
+    × IsLayout p packet.payload layout
+TellsTrouble p k r packet troubles.Other = list_any (nat_eq r.fault.number) faults_told ≡ false
 
 -- what is wrong with a packet may be that other lengths of the codes were recorded
 abbrev pub may_be_lengths : Fault → Bool

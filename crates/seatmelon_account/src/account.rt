@@ -1,21 +1,23 @@
 //! What is told of a capture.
-ghost use Rattle.std.specs.Prelude.{◌≡◌, ◌<◌, ◌^◌, take, None, length, is_some, IfErr, IfOk, IfSome};
+ghost use Rattle.std.specs.Prelude.{◌≡◌, ◌<◌, ◌^◌, ℕ, nat_lt, take, None, length, is_some, option_map, IfErr, IfOk, IfSome};
 ghost use Rattle.sha2.specs.Sha256.{sha256};
 ghost use Rattle.rasta_pcap.specs.Fault.{no_memory};
 ghost use Rattle.rasta_verdict.specs.declared.verdict.Verdict.TheVariants as verdicts;
-ghost use Rattle.rasta_verdict.specs.Given.{IsVerdictOn};
+ghost use Rattle.rasta_verdict.specs.Given.{IsUnscripted, IsVerdictOn};
 ghost use Rattle.seatmelon_reading.specs.PassedOver.{total_of};
-ghost use Rattle.seatmelon_account.specs.Hypotheses.{IsHypothesis, IsSupposed};
-ghost use Rattle.seatmelon_account.specs.Account.{AreSilences, IsAccount, IsToldOf, text_in};
+ghost use Rattle.rasta_pcap.specs.declared.fault.Side.TheVariants.{Client, Server};
+ghost use Rattle.seatmelon_account.specs.Hypotheses.{IsHypothesis, IsSupposed, supposition_in};
+ghost use Rattle.seatmelon_account.specs.Account.{AreSilences, IsAccount, IsToldOf, most_in, text_in};
 ghost use Rattle.seatmelon_account.specs.Messages.{IsDirection};
+ghost use Rattle.seatmelon_account.specs.Refusals.{TellsPlace};
+ghost use Rattle.seatmelon_account.specs.Starts.{start_in};
 
 use crate::crossed::list_of;
 use crate::explained::{Explained, start_of};
 use crate::hypothesis::{Hypothesis, hypothesis_of};
 use crate::messages::direction_of;
 use crate::offers::{Offers, offers_in};
-use crate::refusal::{Refusal, capture_refusal, scripts_refusal, unscripted};
-use rasta_build::{Obstacle, find_obstacle};
+use crate::refusal::{Refusal, capture_refusal, scripts_refusal, text_refusal, unfound};
 use rasta_check::Store;
 use rasta_pcap::{Fault, Side};
 use rasta_pdu::Params;
@@ -146,27 +148,30 @@ impl<'a> Account<'a> {
 
 // A file and its SHA-256.
 fn file_of<'a>(name: &'a str, text: &[u8]) -> File<'a>
-    ensures { result.sum ≡ sha256 text.now }
+    ensures named { result.name.now ≡ name.now }
+    ensures summed { result.sum ≡ sha256 text.now }
 {
     let mut sum = [0; 32];
     sum.copy_from_slice(&Sha256::digest(text));
     File { name, sum }
 }
 
-// What the builder can't get over where it finds nothing.
-fn obstacle_behind(alloc: Global, store: &Store, fault: Fault) -> Result<Option<Obstacle>, Fault>
+// What is told where there are no scripts: the text is no certificate's, or none are found.
+fn unscripted<'a>(
+    alloc: Global,
+    store: &'a Store,
+    certificate: Option<&[u8]>,
+    fault: Fault,
+) -> Result<Refusal<'a>, Fault>
+    requires { IsUnscripted store.now (option_map (λ text. text.now) certificate) fault }
+    ensures fault { IfOk result (λ refusal. refusal.fault ≡ fault) }
+    ensures told { IfOk result (λ refusal. TellsPlace store.now (option_map (λ text. text.now) certificate.entry) fault refusal.subject) }
     ensures err { IfErr result (λ f. f ≡ no_memory) }
 {
-    if fault.number != Fault::NOT_FOUND {
-        return Ok(None);
+    match certificate {
+        Some(text) => Ok(text_refusal(store, text, fault)),
+        None => unfound(alloc, store, fault),
     }
-    find_obstacle(
-        alloc,
-        &store.params(),
-        store.len(),
-        &store.client(),
-        &store.server(),
-    )
 }
 
 // What is told of what explains a capture.
@@ -179,8 +184,10 @@ fn explained<'a>(
 ) -> Result<Explained<'a>, Fault>
     requires { IsVerdictOn reading.now.store (text_in inputs.now) (verdicts.Explained explanation.now) }
     ensures packets { IfOk result (λ e. e.packets ≡ explanation.now.report.packets) }
-    ensures client { IfOk result (λ e. IsDirection reading.now.store.client explanation.now.report.server_taken e.client) }
-    ensures server { IfOk result (λ e. IsDirection reading.now.store.server explanation.now.report.client_taken e.server) }
+    ensures has_code { IfOk result (λ e. e.has_code ≡ nat_lt 0 inputs.now.params.now.code_length) }
+    ensures start { IfOk result (λ e. e.start ≡ start_in inputs.now.params.now reading.now.notes.before) }
+    ensures client { IfOk result (λ e. IsDirection Client reading.now.store.client explanation.now.report.server_taken e.client) }
+    ensures server { IfOk result (λ e. IsDirection Server reading.now.store.server explanation.now.report.client_taken e.server) }
     ensures err { IfErr result (λ f. f ≡ no_memory) }
 {
     let store = &reading.store;
@@ -201,7 +208,8 @@ fn judged<'a>(
     inputs: &Inputs<'a>,
     reading: &'a Reading,
 ) -> Result<Verdict<'a>, Fault>
-    ensures told { IfOk result (IsToldOf inputs.now.params.now reading.now.store None (text_in inputs.now)) }
+    requires { 0 < length reading.now.store.packets }
+    ensures told { IfOk result (IsToldOf inputs.now.params.now reading.now.store reading.now.notes.before None (text_in inputs.now)) }
     ensures err { IfErr result (λ f. f ≡ no_memory) }
 {
     let store = &reading.store;
@@ -216,8 +224,8 @@ fn judged<'a>(
             Ok(Verdict::Refused(scripts_refusal(store, fault, &certificate)))
         }
         rasta_verdict::Verdict::Unscripted(fault) => {
-            let met = obstacle_behind(alloc, store, fault)?;
-            Ok(Verdict::Refused(unscripted(store, fault, met)))
+            let refusal = unscripted(alloc, store, inputs.texts.certificate, fault)?;
+            Ok(Verdict::Refused(refusal))
         }
     }
 }
@@ -228,7 +236,8 @@ fn verdict_on<'a>(
     inputs: &Inputs<'a>,
     reading: &'a Reading,
 ) -> Result<Verdict<'a>, Fault>
-    ensures told { IfOk result (IsToldOf inputs.now.params.now reading.now.store reading.now.refusal (text_in inputs.now)) }
+    ensures told { IfOk result (IsToldOf inputs.now.params.now reading.now.store reading.now.notes.before
+        reading.now.refusal (text_in inputs.now)) }
     ensures err { IfErr result (λ f. f ≡ no_memory) }
 {
     let store = &reading.store;
@@ -264,9 +273,9 @@ fn hypothesis_in<'a>(
     reading: &'a Reading,
     supposition: Option<Supposition>,
 ) -> Result<Option<Hypothesis<'a>>, Fault>
-    requires { IfSome supposition (λ s. IsSupposed params.now reading.now.notes.tape s) }
-    ensures hypothesis { IfOk result (λ h. IfSome h (IsHypothesis params.now reading.now.notes.tape)) }
-    ensures told { IfOk result (λ h. is_some h ≡ is_some supposition) }
+    ensures hypothesis { (most : ℕ) → IfSome supposition (IsSupposed params.now reading.now.notes.tape most)
+        → IfOk result (λ h. IfSome h (IsHypothesis params.now reading.now.notes most)) }
+    ensures told { IfOk result (λ h. option_map supposition_in h ≡ supposition) }
     ensures err { IfErr result (λ f. f ≡ no_memory) }
 {
     match supposition {
@@ -283,8 +292,10 @@ pub fn account_of<'a>(
     reading: &'a Reading,
     supposition: Option<Supposition>,
 ) -> Result<Account<'a>, Fault>
-    requires { IfSome supposition (λ s. IsSupposed inputs.now.params.now reading.now.notes.tape s) }
+    requires { IfSome supposition (IsSupposed inputs.now.params.now reading.now.notes.tape (most_in inputs.now)) }
     ensures account { IfOk result (IsAccount inputs.now reading.now) }
+    // What is told of a supposition is told of the one that is passed.
+    ensures passed { IfOk result (λ a. option_map supposition_in a.hypothesis ≡ supposition) }
     ensures told { IfOk result (λ a. is_some a.hypothesis ≡ is_some supposition) }
     ensures err { IfErr result (λ f. f ≡ no_memory) }
 {

@@ -1,8 +1,8 @@
 //! How a datagram differs from what is due.
-ghost use Rattle.std.specs.Prelude.{◌≡◌, ◌++◌, List, IfSome, length, take};
+ghost use Rattle.std.specs.Prelude.{◌≡◌, ◌++◌, List, length, take};
 ghost use Rattle.seatmelon_account.specs.Differences.{difference_at, differing};
 ghost use Rattle.seatmelon_account.specs.declared.differences.Difference.{Difference};
-ghost use Rattle.seatmelon_account.specs.Troubles.{AreCodes};
+ghost use Rattle.seatmelon_account.specs.Troubles.{TellsCodes};
 
 use arrayvec::ArrayVec;
 use rasta_pdu::{Coded, Params, coded_in};
@@ -25,7 +25,7 @@ impl Codes<'_> {
 
 /// The safety code that a datagram has, and the one that is due, if the datagram is long enough.
 pub fn codes_in<'a>(params: &Params, datagram: &'a [u8]) -> Option<Codes<'a>>
-    ensures { IfSome result (AreCodes params.now datagram.now) }
+    ensures { TellsCodes params.now datagram.now result }
 {
     let Coded { covered, code } = coded_in(params, datagram)?;
     Some(Codes {

@@ -1,5 +1,7 @@
 //! Entries of scripts that the checker refuses.
-ghost use Rattle.std.specs.Prelude.{◌≡◌};
+ghost use Rattle.std.specs.Prelude.{◌≡◌, Some};
+ghost use Rattle.rasta_pcap.specs.declared.fault.Side.{Side};
+ghost use Rattle.seatmelon_account.specs.Entries.{IsEntry, line_of};
 
 use crate::crossed::{Crossed, first_with, list_of, pdu_at};
 use rasta_cert::{Certificate, Entry};
@@ -78,12 +80,14 @@ fn named_by(store: &Store, side: Side, entry: Entry) -> Option<Crossed<'_>> {
 }
 
 // The line of the entry of that number in an end's script.
-fn line_of(certificate: &Certificate, side: Side, number: u32) -> u64 {
+fn line_of(certificate: &Certificate, side: Side, number: u32) -> u64
+    ensures { result ≡ line_of certificate.now side number }
+{
     let before: u64 = match side {
         Side::Client => 2,
-        Side::Server => (certificate.client().len() as u64).saturating_add(3),
+        Side::Server => certificate.client().len() as u64 + 3,
     };
-    u64::from(number).saturating_add(before)
+    u64::from(number) + before
 }
 
 // The packet of which the refusal of an entry speaks.
@@ -105,7 +109,8 @@ pub fn refused_entry<'a>(
     certificate: &Certificate,
     fault: Fault,
 ) -> RefusedEntry<'a>
-    ensures { result.number ≡ fault.place }
+    requires { (side : Side) × (fault.end ≡ Some side) }
+    ensures { IsEntry certificate.now fault result }
 {
     let side = fault.end.unwrap_or(Side::Client);
     RefusedEntry {

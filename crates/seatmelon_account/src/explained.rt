@@ -1,4 +1,7 @@
 //! What is told of an explained capture.
+ghost use Rattle.std.specs.Prelude.{◌≡◌};
+ghost use Rattle.seatmelon_account.specs.Starts.{start_in};
+
 use crate::messages::Direction;
 use rasta_pdu::{Params, Quiet};
 use seatmelon_reading::Notes;
@@ -33,7 +36,9 @@ pub struct Explained<'a> {
 }
 
 /// Where what is judged begins.
-pub fn start_of(params: &Params, notes: &Notes) -> Start {
+pub fn start_of(params: &Params, notes: &Notes) -> Start
+    ensures { result ≡ start_in params.now notes.now.before }
+{
     match params.quiet() {
         Some(quiet) => Start::Quiet(params.first_record(), quiet),
         None if notes.before > 0 => Start::LaterOpening,

@@ -1,5 +1,6 @@
 //! A gap in the redundancy numbers of an end.
-ghost use Rattle.std.specs.Prelude.{◌≡◌, IfSome};
+ghost use Rattle.std.specs.Prelude.{◌≡◌, ◌⊎◌, length, None, IfSome};
+ghost use Rattle.rasta_pdu.specs.Fields.{field_at};
 ghost use Rattle.rasta_check.specs.Capture.Crossing.{sent_by};
 ghost use Rattle.seatmelon_account.specs.Crossed.{has_opening};
 ghost use Rattle.seatmelon_account.specs.Gaps.{IsGap, IsLastOf};
@@ -81,7 +82,8 @@ impl Gap {
 
 // What an end sent last.
 fn last_of(list: &SpanList<'_>) -> Option<LastBefore>
-    ensures { IfSome result (IsLastOf list.now) }
+    ensures last { IfSome result (IsLastOf list.now) }
+    ensures none { result ≡ None → length list.now ≡ 0 }
 {
     let (place, pdu) = list.get(list.len().checked_sub(1)?)?;
     Some(LastBefore {
@@ -97,6 +99,7 @@ fn last_of(list: &SpanList<'_>) -> Option<LastBefore>
 pub fn gap_of(store: &Store, side: Side, datagram: &[u8], later: Option<Sighting>) -> Option<Gap>
     ensures gap { IfSome result (IsGap (sent_by store.now side) (has_opening store.now) datagram.now) }
     ensures later { IfSome result (λ gap. gap.later ≡ later) }
+    ensures none { result ≡ None → (length (sent_by store.now side) ≡ 0) ⊎ (field_at 4 4 datagram.now ≡ None) }
 {
     let fields = Fields::of(datagram);
     Some(Gap {

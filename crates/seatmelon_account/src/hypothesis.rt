@@ -1,14 +1,17 @@
 //! What is supposed of a refused capture.
-ghost use Rattle.std.specs.Prelude.{◌≡◌, IfErr, IfOk, IfSome, OnOk};
+ghost use Rattle.std.specs.Prelude.{◌≡◌, ◌++◌, [], ℕ, map, slice_get, unwrap_or, IfErr, IfOk, IfSome, OnOk};
+ghost use Rattle.std.specs.List.{cons_option};
 ghost use Rattle.rasta_pcap.specs.Fault.{no_memory};
-ghost use Rattle.seatmelon_account.specs.Hypotheses.{AreListed, IsHypothesis, IsProofIn, IsSupposed, IsToldOf};
+ghost use Rattle.rasta_pdu.specs.Pdu.{messages_in, value_of};
+ghost use Rattle.seatmelon_reading.specs.Tapes.{taped_as};
+ghost use Rattle.seatmelon_account.specs.Hypotheses.{AreListed, AreProved, IsHypothesis, IsProofIn, IsSupposed, IsToldOf, captured_as, captured_from, message_in, numbered_of, proof_listed};
 
 use crate::explained::{Start, start_of};
 use crate::messages::{Direction, Message};
 use rasta_pcap::{Fault, Side};
-use rasta_pdu::{Params, decode};
+use rasta_pdu::{Params, Pdu, decode};
 use seatmelon_reading::{Notes, Taped};
-use seatmelon_suppose::{Listed, Messages, Supposition};
+use seatmelon_suppose::{Listed, Messages, SentMessage, Supposition};
 use std::alloc::{AllocError, Global};
 
 /// What is supposed of a capture that is refused at a gap.
@@ -27,23 +30,39 @@ pub struct Hypothesis<'a> {
     pub server: Direction<'a>,
 }
 
-// The message of that number, from 0, of the packet at a place.
-fn message_at<'a>(
-    params: &Params,
-    packets: &'a [Taped],
-    place: usize,
-    number: usize,
-) -> Option<&'a [u8]> {
-    let taped = packets.get(place)?;
-    let pdu = decode(params, taped.sender, &taped.datagram).ok()?;
-    pdu.messages().nth(number)
+// The message of that number, from 0, of a PDU; empty where there is none.
+fn message_of<'a>(pdu: &Pdu<'a>, index: usize) -> &'a [u8]
+    ensures { result.now ≡ unwrap_or (slice_get (messages_in (value_of pdu.now).safety.body) index) [] }
+{
+    let mut before = index;
+    for message in pdu.messages() {
+        if before == 0 {
+            return message;
+        }
+        before -= 1;
+    }
+    &[]
+}
+
+// The message of that number, from 0, of the packet at a place; empty where there is none.
+fn message_in<'a>(params: &Params, packets: &'a [Taped], place: usize, index: usize) -> &'a [u8]
+    ensures { result.now ≡ message_in params.now (map taped_as packets.now) place index }
+{
+    let Some(taped) = packets.get(place) else {
+        return &[];
+    };
+    match decode(params, taped.sender, &taped.datagram) {
+        Ok(pdu) => message_of(&pdu, index),
+        Err(_) => &[],
+    }
 }
 
 // The proof of a message of this data, if it is the one that is listed there.
-fn proof_at(taken: &[Listed], number: usize, place: u32) -> Option<u32>
-    ensures { IfSome result (IsProofIn taken.now place) }
+fn proof_at(taken: &[Listed], order: usize, place: u32) -> Option<u32>
+    ensures proof { result ≡ proof_listed taken.now order place }
+    ensures listed { IfSome result (IsProofIn taken.now place) }
 {
-    let listed = taken.get(number)?;
+    let listed = taken.get(order)?;
     if listed.data == place as usize {
         u32::try_from(listed.proof).ok()
     } else {
@@ -51,55 +70,30 @@ fn proof_at(taken: &[Listed], number: usize, place: u32) -> Option<u32>
     }
 }
 
-// Messages on their way to be told.
-#[derive(Drop)]
-struct Telling<'a> {
-    messages: Vec<Message<'a>>,
-
-    // The place of the data of the last one, and how many before it are of the same data.
-    last: Option<usize>,
-    repeated: usize,
-}
-
-impl<'a> Telling<'a> {
-    // How many messages before the next one are of the same data, which stands at this place.
-    fn repeat(&mut self, place: usize) -> usize
-        ensures { self.new.messages ≡ self.old.messages }
-    {
-        self.repeated = if self.last == Some(place) {
-            self.repeated.saturating_add(1)
-        } else {
-            0
-        };
-        self.last = Some(place);
-        self.repeated
-    }
-
-    // Tells the next message: its number, and the place of its data.
-    fn add(
-        &mut self,
-        params: &Params,
-        packets: &'a [Taped],
-        taken: &[Listed],
-        number: usize,
-        place: usize,
-    ) -> Result<(), AllocError>
-        ensures { OnOk result (AreListed taken.now self.old.messages.items → AreListed taken.now self.new.messages.items) }
-    {
-        let Ok(data) = u32::try_from(place) else {
-            return Ok(());
-        };
-        let repeated = self.repeat(place);
-        let bytes = message_at(params, packets, place, repeated).unwrap_or(&[]);
-        let proof = proof_at(taken, self.messages.len(), data);
-        self.messages.push(Message {
-            number: number as u64,
-            data,
-            proof,
-            bytes,
-        })?;
-        Ok(())
-    }
+// Tells a message that an end sent, the one of this number, if its data was captured.
+fn add<'a>(
+    told: &mut Vec<Message<'a>>,
+    params: &Params,
+    packets: &'a [Taped],
+    taken: &[Listed],
+    number: usize,
+    sent: SentMessage,
+) -> Result<(), AllocError>
+    ensures all { OnOk result (map numbered_of told.new.items
+        ≡ map numbered_of told.old.items ++ cons_option (captured_as params.now (map taped_as packets.now) number sent) []) }
+    ensures proved { OnOk result (AreProved taken.now told.old.items → AreProved taken.now told.new.items) }
+    ensures listed { OnOk result (AreListed taken.now told.old.items → AreListed taken.now told.new.items) }
+{
+    let Some(data) = sent.data.and_then(|place| u32::try_from(place).ok()) else {
+        return Ok(());
+    };
+    told.push(Message {
+        number: number as u64,
+        data,
+        proof: proof_at(taken, told.len(), data),
+        bytes: message_in(params, packets, data as usize, sent.index),
+    })?;
+    Ok(())
 }
 
 // The messages of an end, as far as their data was captured.
@@ -109,20 +103,16 @@ fn told<'a>(
     packets: &'a [Taped],
     messages: &Messages,
 ) -> Result<Vec<Message<'a>>, AllocError>
-    ensures { IfOk result (λ told. AreListed messages.now.taken.items told.items) }
+    ensures all { IfOk result (λ told. map numbered_of told.items
+        ≡ captured_from params.now (map taped_as packets.now) 0 messages.now.sent.items) }
+    ensures proved { IfOk result (λ told. AreProved messages.now.taken.items told.items) }
+    ensures listed { IfOk result (λ told. AreListed messages.now.taken.items told.items) }
 {
-    let mut telling = Telling {
-        messages: Vec::new(alloc),
-        last: None,
-        repeated: 0,
-    };
-    for (number, data) in messages.sent.iter().enumerate() {
-        if let Some(place) = data {
-            telling.add(params, packets, &messages.taken, number, *place)?;
-        }
+    let mut told = Vec::new(alloc);
+    for (number, sent) in messages.sent.iter().enumerate() {
+        add(&mut told, params, packets, &messages.taken, number, *sent)?;
     }
-    let Telling { messages, .. } = telling;
-    Ok(messages)
+    Ok(told)
 }
 
 // The messages of an end.
@@ -133,7 +123,7 @@ fn direction<'a>(
     sender: Side,
     messages: &Messages,
 ) -> Result<Direction<'a>, AllocError>
-    ensures { IfOk result (IsToldOf messages.now.taken.items) }
+    ensures { IfOk result (IsToldOf sender params.now (map taped_as packets.now) messages.now) }
 {
     Ok(Direction {
         sender,
@@ -149,8 +139,9 @@ pub fn hypothesis_of<'a>(
     notes: &'a Notes,
     supposition: Supposition,
 ) -> Result<Hypothesis<'a>, Fault>
-    requires { IsSupposed params.now notes.now.tape supposition }
-    ensures hypothesis { IfOk result (IsHypothesis params.now notes.now.tape) }
+    ensures hypothesis { (most : ℕ) → IsSupposed params.now notes.now.tape most supposition
+        → IfOk result (IsHypothesis params.now notes.now most) }
+    ensures passed { IfOk result (λ h. h.supposition ≡ supposition) }
     ensures err { IfErr result (λ f. f ≡ no_memory) }
 {
     let packets = notes.tape.packets.as_slice();

@@ -146,7 +146,7 @@ pub fn direction_of<'a>(
     listed: &[Taken<'_>],
 ) -> Result<Direction<'a>, Fault>
     requires { AreFirst (messages_sent list.now) (map listed_of listed.now) }
-    ensures direction { IfOk result (IsDirection list.now (map listed_of listed.now)) }
+    ensures direction { IfOk result (IsDirection sender list.now (map listed_of listed.now)) }
     ensures err { IfErr result (λ f. f ≡ no_memory) }
 {
     Ok(Direction {

@@ -1,15 +1,19 @@
 //! What is told of a refusal.
-ghost use Rattle.std.specs.Prelude.{◌≡◌, ◌-◌, ◌==◌, ◌&&◌, length, option_map};
+ghost use Rattle.std.specs.Prelude.{◌≡◌, ◌-◌, ◌==◌, ◌&&◌, ℕ, List, length, Option, None, Some, option_map, IfErr, IfOk};
+ghost use Rattle.rasta_pcap.specs.Fault.{no_memory};
 ghost use Rattle.rasta_udp.specs.Frame.{packet_of};
+ghost use Rattle.rasta_check.specs.Capture.Crossing.{IsCrossing};
+ghost use Rattle.rasta_build.specs.Stopping.{IsMet};
+ghost use Rattle.rasta_verdict.specs.Given.{AreScripts, IsUnscripted};
 ghost use Rattle.seatmelon_account.specs.Crossed as crossed_specs;
-ghost use Rattle.seatmelon_account.specs.Refusals.{TellsPlace, TellsRecord};
+ghost use Rattle.seatmelon_account.specs.Refusals.{IsRefusal, TellsPlace, TellsRecord};
 ghost use Rattle.seatmelon_account.specs.Troubles.{TellsPacket, lengths_if, may_be_lengths, packet_refused};
 
 use crate::crossed::{Crossed, has_opening, packet_at};
 use crate::entries::{RefusedEntry, refused_entry};
-use crate::rules::{BrokenRule, broken_rule};
+use crate::rules::{BrokenRule, rule_met};
 use crate::trouble::{Trouble, trouble_of};
-use rasta_build::Obstacle;
+use rasta_build::{Obstacle, find_obstacle};
 use rasta_cert::Certificate;
 use rasta_check::Store;
 use rasta_pcap::{CaptureTime, Fault, Side};
@@ -17,6 +21,7 @@ use rasta_pdu::{Kind, Params};
 use rasta_udp::{Datagram, datagram_in};
 use seatmelon_packets::{Fits, Trials, features_by};
 use seatmelon_reading::{CaptureRefusal, CodeCount};
+use std::alloc::Global;
 
 /// The packet of a refused record.
 #[derive(Drop)]
@@ -162,33 +167,55 @@ fn is_exchanged(packet: &Option<Crossed<'_>>) -> bool
 
 // What is told of a packet that can't be explained.
 fn unexplained<'a>(store: &'a Store, fault: Fault, met: Option<Obstacle>) -> Subject<'a>
-    ensures { TellsPlace store.now fault result }
+    requires crossed { IsCrossing store.now }
+    requires found { IsUnscripted store.now None fault }
+    requires met { IsMet store.now.params store.now.client store.now.server met }
+    ensures { TellsPlace store.now None fault result }
 {
     let packet = packet_at(store, fault.place.saturating_sub(1));
     Subject::Unexplained {
         is_exchanged: is_exchanged(&packet),
         packet,
-        rule: met.and_then(|met| broken_rule(store, &met)),
+        rule: rule_met(store, met),
         lacks_opening: lacks_opening(store),
     }
 }
 
-/// What is told of packets for which there are no scripts.
-pub fn unscripted<'a>(store: &'a Store, fault: Fault, met: Option<Obstacle>) -> Refusal<'a>
-    ensures fault { result.fault ≡ fault }
-    ensures told { TellsPlace store.now fault result.subject }
+/// What is told of packets for which no scripts are found. Refused by [`Fault::NO_MEMORY`] alone.
+pub fn unfound<'a>(alloc: Global, store: &'a Store, fault: Fault) -> Result<Refusal<'a>, Fault>
+    requires { IsUnscripted store.now None fault }
+    ensures fault { IfOk result (λ refusal. refusal.fault ≡ fault) }
+    ensures told { IfOk result (λ refusal. TellsPlace store.now None fault refusal.subject) }
+    ensures err { IfErr result (λ f. f ≡ no_memory) }
 {
-    let subject = match fault.number {
-        Fault::NOT_FOUND => unexplained(store, fault, met),
-        _ => Subject::Line(fault.place),
-    };
-    Refusal { fault, subject }
+    let met = find_obstacle(
+        alloc,
+        &store.params(),
+        store.len(),
+        &store.client(),
+        &store.server(),
+    )?;
+    let subject = unexplained(store, fault, met);
+    Ok(Refusal { fault, subject })
+}
+
+/// What is told of the text of a certificate that is refused.
+pub fn text_refusal<'a>(store: &Store, text: &[u8], fault: Fault) -> Refusal<'a>
+    requires { IsUnscripted store.now (Some text.now) fault }
+    ensures fault { result.fault ≡ fault }
+    ensures told { TellsPlace store.now (Some text.now) fault result.subject }
+{
+    Refusal {
+        fault,
+        subject: Subject::Line(fault.place),
+    }
 }
 
 /// What is told of packets whose scripts the checker refuses.
 pub fn scripts_refusal<'a>(store: &'a Store, fault: Fault, certificate: &Certificate) -> Refusal<'a>
+    requires { IsRefusal store.now certificate.now fault }
     ensures fault { result.fault ≡ fault }
-    ensures told { TellsPlace store.now fault result.subject }
+    ensures told { (text : Option (List ℕ)) → AreScripts store.now text certificate.now → TellsPlace store.now text fault result.subject }
 {
     Refusal {
         fault,

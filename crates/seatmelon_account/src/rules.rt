@@ -1,6 +1,9 @@
 //! The rule that refuses a PDU, found by a walk beside the verdict.
-ghost use Rattle.std.specs.Prelude.{◌≡◌, IfSome, Some};
-ghost use Rattle.seatmelon_account.specs.Deadlines.{IsDeadline, deadline_by};
+ghost use Rattle.std.specs.Prelude.{◌≡◌, IfSome, None};
+ghost use Rattle.rasta_check.specs.Capture.Crossing.{IsCrossing, sent_by};
+ghost use Rattle.rasta_build.specs.Stopping.{IsMet};
+ghost use Rattle.seatmelon_account.specs.Crossed.{pdu_at};
+ghost use Rattle.seatmelon_account.specs.Rules.{IsBroken, IsDeadlineOf, TellsDeadline, TellsRule, deadline_by};
 
 use crate::crossed::{Crossed, first_with, list_of, pdu_at};
 use rasta_build::{Confirmation, Obstacle, Rule};
@@ -63,7 +66,7 @@ fn number_in(rule: Rule) -> Option<u32> {
 
 // The deadline of an end: T_max after what was confirmed, or that of the quiet point.
 fn deadline_at(params: &Params, side: Side, confirmed: Option<Confirmation>) -> Option<u64>
-    ensures { IfSome result (λ deadline. deadline_by params.now side confirmed ≡ Some deadline) }
+    ensures { TellsDeadline (deadline_by params.now side confirmed) result }
 {
     match confirmed {
         Some(confirmed) => confirmed.time?.checked_add(u64::from(params.t_max())),
@@ -73,7 +76,7 @@ fn deadline_at(params: &Params, side: Side, confirmed: Option<Confirmation>) -> 
 
 // The deadline that a PDU misses, where a rule speaks of one.
 fn deadline_of(params: &Params, met: &Obstacle) -> Option<Deadline>
-    ensures { IfSome result (IsDeadline params.now met.now) }
+    ensures { IsDeadlineOf params.now met.now.side met.now.rule result }
 {
     let Rule::Deadline {
         clock,
@@ -129,8 +132,11 @@ fn found_in(rule: Rule, pdu: &Pdu<'_>) -> Option<(&'static str, u32)> {
     }
 }
 
-/// What is told of the rule that a walk met.
-pub fn broken_rule<'a>(store: &'a Store, met: &Obstacle) -> Option<BrokenRule<'a>> {
+// What is told of the rule that a walk met.
+fn broken_rule<'a>(store: &'a Store, met: &Obstacle) -> Option<BrokenRule<'a>>
+    ensures broken { IfSome result (IsBroken store.now met.now) }
+    ensures none { result ≡ None → pdu_at (sent_by store.now met.now.side) met.now.place ≡ None }
+{
     let list = list_of(store, met.side);
     let pdu = pdu_at(&list, met.place)?;
     let peer = met.side.other();
@@ -144,4 +150,16 @@ pub fn broken_rule<'a>(store: &'a Store, met: &Obstacle) -> Option<BrokenRule<'a
         deadline: deadline_of(&store.params(), met),
         peer_pdu: number_in(met.rule).and_then(|number| first_with(store, peer, number)),
     })
+}
+
+/// What is told of what a walk met.
+pub fn rule_met<'a>(store: &'a Store, met: Option<Obstacle>) -> Option<BrokenRule<'a>>
+    requires crossed { IsCrossing store.now }
+    requires met { IsMet store.now.params store.now.client store.now.server met }
+    ensures { TellsRule store.now result }
+{
+    match met {
+        Some(met) => broken_rule(store, &met),
+        None => None,
+    }
 }

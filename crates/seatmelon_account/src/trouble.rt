@@ -1,6 +1,6 @@
 //! What is wrong with a packet.
 ghost use Rattle.rasta_udp.specs.Frame.{packet_of};
-ghost use Rattle.seatmelon_account.specs.Troubles.{TellsOther, TellsTrouble};
+ghost use Rattle.seatmelon_account.specs.Troubles.{TellsGap, TellsOther, TellsTrouble};
 
 use crate::differences::{Codes, Differences, codes_in, differences};
 use crate::gap::{Gap, gap_of};
@@ -68,19 +68,11 @@ fn first_copy<'a>(refusal: &'a CaptureRefusal, datagram: &[u8]) -> Option<FirstC
 }
 
 // The gap that the packet of a refused record shows.
-fn gap<'a>(
-    params: &Params,
-    store: &Store,
-    refusal: &CaptureRefusal,
-    packet: &Datagram<'a>,
-) -> Trouble<'a>
-    ensures { TellsTrouble params.now store.now refusal.now (packet_of packet.now) result }
+fn gap(store: &Store, refusal: &CaptureRefusal, packet: &Datagram<'_>) -> Option<Gap>
+    ensures { TellsGap store.now refusal.now (packet_of packet.now) result }
 {
     let later = refusal.beside.as_ref().map(|beside| beside.sighting);
-    match gap_of(store, packet.side, packet.payload, later) {
-        Some(gap) => Trouble::Gap(Some(gap)),
-        None => Trouble::Gap(None),
-    }
+    gap_of(store, packet.side, packet.payload, later)
 }
 
 /// What is wrong with the packet of a refused record, behind what crossed.
@@ -96,7 +88,7 @@ pub fn trouble_of<'a>(
     match refusal.fault.number {
         Fault::CODE => Trouble::Code(codes_in(params, datagram), first_copy(refusal, datagram)),
         Fault::COPY_DIFFERS => Trouble::Copy(first_copy(refusal, datagram)),
-        Fault::NUMBER_GAP => gap(params, store, refusal, packet),
+        Fault::NUMBER_GAP => Trouble::Gap(gap(store, refusal, packet)),
         Fault::IDS => {
             let (receiver, sender) = recorded_ids(params, packet.side);
             Trouble::Ids { receiver, sender }

@@ -17,16 +17,16 @@ use Rattle.seatmelon_reading.specs.declared.capture_refusal.CaptureRefusal.{Capt
 use Rattle.seatmelon_reading.specs.declared.reading.Reading.{Reading}
 
 -- a verdict that comes to 'explained' says so of what crossed
-verdict_explained : (p : Parameters) (k : Crossing) (refusal : Option CaptureRefusal) (text : Option (List ℕ)) (v : Verdict)
-    → IsToldOf p k refusal text v → outcomes.Explained ≡ outcome_in v → (refusal ≡ None) × IsExplained k text
-verdict_explained p k refusal text verdicts.NoPackets told is = absurd (cc)
-verdict_explained p k refusal text (verdicts.Refused r) told is = absurd (cc)
-verdict_explained p k refusal text (verdicts.Explained e) told is = (told.0, (told.1.0, told.1.1))
+verdict_explained : (p : Parameters) (k : Crossing) (before : ℕ) (refusal : Option CaptureRefusal) (text : Option (List ℕ)) (v : Verdict)
+    → IsToldOf p k before refusal text v → outcomes.Explained ≡ outcome_in v → (refusal ≡ None) × IsExplained k text
+verdict_explained p k before refusal text verdicts.NoPackets told is = absurd (cc)
+verdict_explained p k before refusal text (verdicts.Refused r) told is = absurd (cc)
+verdict_explained p k before refusal text (verdicts.Explained e) told is = (told.0, (told.1.report, told.1.answered))
 
 -- so does the account of what was read; there is one where no record that is to be left out is missing
 told_if : (missing : Option ℕ) (i : Inputs) (r : Reading) (o : Outcome) → IsToldIf missing i r o → o ≡ outcomes.Explained
     → (r.refusal ≡ None) × IsExplained r.store (text_in i)
-told_if None i r o told is = verdict_explained i.params.now r.store r.refusal (text_in i) told.0.verdict told.1.verdict (sym is ∙ told.3)
+told_if None i r o told is = verdict_explained i.params.now r.store r.notes.before r.refusal (text_in i) told.0.verdict told.1.verdict (sym is ∙ told.3)
 told_if (Some number) i r o told is = absurd (cc)
 
 told_explained : (i : Inputs) (r : Reading) (o : Outcome) → IsToldBy i r o → o ≡ outcomes.Explained → (r.refusal ≡ None) × IsExplained r.store (text_in i)

@@ -1,6 +1,7 @@
 //! A verdict on a capture, in words or as data.
 ghost use Rattle.std.specs.Prelude.{◌≡◌, ◌⊎◌, is_some, IfErr, IfOk, IfSome};
 ghost use Rattle.rasta_pcap.specs.Fault.{no_memory, read_failed, write_failed};
+ghost use Rattle.seatmelon_account.specs.Account.{most_in};
 ghost use Rattle.seatmelon_account.specs.Hypotheses.{IsSupposed};
 ghost use Rattle.seatmelon_explain.specs.Outcomes.{asks_supposed, IsFileExplained, IsFileTold, IsMissing, IsSomeExplained, IsToldBy, NamesRecord, certificate_in, outcome_in};
 ghost use Rattle.seatmelon_explain.specs.declared.explaining.Outcome.TheVariants.{Explained};
@@ -72,7 +73,7 @@ fn supposed(
     inputs: &Inputs<'_>,
     reading: &Reading,
 ) -> Result<Option<Supposition>, Fault>
-    ensures supposed { IfOk result (λ s. IfSome s (IsSupposed inputs.now.params.now reading.now.notes.tape)) }
+    ensures supposed { IfOk result (λ s. IfSome s (IsSupposed inputs.now.params.now reading.now.notes.tape (most_in inputs.now))) }
     ensures asked { IfOk result (λ s. is_some s ≡ asks_supposed inputs.now reading.now) }
     ensures err { IfErr result (λ f. f ≡ no_memory) }
 {

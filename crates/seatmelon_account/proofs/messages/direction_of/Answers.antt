@@ -1,4 +1,4 @@
-use Rattle.std.proofs.Common.{◌∙◌, ap, is_some, map, nat_lt, sym}
+use Rattle.std.proofs.Common.{◌∙◌, ap, is_some, map, nat_lt, refl, sym}
 use Rattle.std.proofs.lemmas.List.{length-map}
 use Rattle.rasta_check.specs.Verdict.Listed.{listed_of}
 use Rattle.seatmelon_account.proofs.SentMessages.{is_listed, told_as_taken}
@@ -8,6 +8,7 @@ pub returns-clause-direction : goal.returns-clause-direction
 returns-clause-direction c =
     let messages = c.in_ok-messages_of.field-0.items in
     let made = c.in_ok-messages_of.ensures in record {
+      end = refl;
       count = sym (length-map c.args.listed.now listed_of);
       messages = record {
         all = made.all;
