@@ -97,7 +97,11 @@ fn is_read_in(alloc: Global, file: &[u8], size: usize) -> bool {
 // Whether all of the heartbeat's file is read.
 fn is_read_whole(alloc: Global) -> Option<bool> {
     let file = heartbeat_file(alloc)?;
-    Some(is_read_in(alloc, &file, 1) && is_read_in(alloc, &file, 7) && is_read_in(alloc, &file, 4096))
+    Some(
+        is_read_in(alloc, &file, 1)
+            && is_read_in(alloc, &file, 7)
+            && is_read_in(alloc, &file, 4096),
+    )
 }
 
 #[test]
