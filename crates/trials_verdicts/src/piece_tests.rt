@@ -4,7 +4,7 @@ ghost use Rattle.std.specs.Prelude.{None};
 use crate::cases::{Case, Command, case_of, commands_of, outcome_of, row_at, rows, told};
 use crate::show_tests::{heartbeat_file, parameters};
 use rasta_pcap::devices::{FailAt, Pieces};
-use rasta_pcap::{Counted, Pcap, Record, Stream, read_all};
+use rasta_pcap::{Counted, Fault, Pcap, Record, Stream, read_all};
 use rasta_pdu::{Params, Source};
 use rasta_show::run_show;
 use std::alloc::Global;
@@ -51,20 +51,45 @@ fn is_same_record(one: &Record<'_>, other: &Record<'_>) -> bool {
     one.number == other.number && one.bytes == other.bytes
 }
 
+// Whether a stream over pieces of a file that is refused in memory is refused so too.
+fn is_refused_so(alloc: Global, pieces: Pieces<'_>, fault: Fault) -> bool {
+    match Stream::open(alloc, Counted::new(pieces)) {
+        Ok(_) => false,
+        Err(other) => other == fault,
+    }
+}
+
+// Whether a stream goes on as a capture in memory does; none where both have ended so.
+fn goes_on<R: Source + Drop>(pcap: &mut Pcap<'_>, stream: &mut Stream<R>) -> Option<bool> {
+    let other = stream.next_record();
+    match pcap.next_record() {
+        Ok(Some(record)) => match other {
+            Ok(Some(found)) => Some(is_same_record(&record, &found)),
+            Ok(None) | Err(_) => Some(false),
+        },
+        Ok(None) => match other {
+            Ok(None) => None,
+            Ok(Some(_)) | Err(_) => Some(false),
+        },
+        Err(fault) => match other {
+            Err(same) if same == fault => None,
+            Ok(_) | Err(_) => Some(false),
+        },
+    }
+}
+
 // Whether a stream over pieces of a file gives what the file has in memory: its records, and its end or its fault.
 fn is_streamed(alloc: Global, file: &[u8], pieces: Pieces<'_>) -> Option<bool> {
-    let opened = (Pcap::open(file), Stream::open(alloc, Counted::new(pieces)));
-    let (mut pcap, mut stream) = match opened {
-        (Ok(pcap), Ok(stream)) => (pcap, stream),
-        (Err(one), Err(other)) => return Some(one == other),
-        _ => return Some(false),
+    let mut pcap = match Pcap::open(file) {
+        Ok(pcap) => pcap,
+        Err(fault) => return Some(is_refused_so(alloc, pieces, fault)),
     };
+    let mut stream = Stream::open(alloc, Counted::new(pieces)).ok()?;
     for _ in 0..=file.len() {
-        match (pcap.next_record(), stream.next_record()) {
-            (Ok(Some(one)), Ok(Some(other))) if is_same_record(&one, &other) => {}
-            (Ok(None), Ok(None)) => return Some(true),
-            (Err(one), Err(other)) => return Some(one == other),
-            _ => return Some(false),
+        match goes_on(&mut pcap, &mut stream) {
+            Some(true) => {}
+            Some(false) => return Some(false),
+            None => return Some(true),
         }
     }
     None
@@ -86,9 +111,9 @@ fn captures_come_as_streams(rt: HostRuntime) {
     }
 }
 
-// Whether all bytes of a file are read, in pieces of this size.
-fn is_read_in(alloc: Global, file: &[u8], size: usize) -> bool {
-    match read_all(alloc, &mut Counted::new(Pieces::new(file, size))) {
+// Whether all bytes of a file are read, in these pieces.
+fn is_read(alloc: Global, file: &[u8], pieces: Pieces<'_>) -> bool {
+    match read_all(alloc, &mut Counted::new(pieces)) {
         Ok(bytes) => bytes.as_slice() == file,
         Err(_) => false,
     }
@@ -97,11 +122,10 @@ fn is_read_in(alloc: Global, file: &[u8], size: usize) -> bool {
 // Whether all of the heartbeat's file is read.
 fn is_read_whole(alloc: Global) -> Option<bool> {
     let file = heartbeat_file(alloc)?;
-    Some(
-        is_read_in(alloc, &file, 1)
-            && is_read_in(alloc, &file, 7)
-            && is_read_in(alloc, &file, 4096),
-    )
+    let is_whole = is_read(alloc, &file, Pieces::new(&file, 1))
+        && is_read(alloc, &file, Pieces::new(&file, 7))
+        && is_read(alloc, &file, Pieces::new(&file, 4096));
+    Some(is_whole)
 }
 
 #[test]
