@@ -12,4 +12,5 @@ pub mod TakeRows
 pub mod NamedPositions
 pub mod Steps
 pub mod OfferedUnits
+pub mod Settled
 pub mod ConveyedUnits

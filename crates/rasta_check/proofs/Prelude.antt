@@ -60,7 +60,7 @@ pub use Rattle.rasta_check.specs.Internals.Storing.{crossing_left}
 pub use Rattle.rasta_check.specs.Model.Laws.{NamesOne}
 pub use Rattle.rasta_check.specs.Model.Taken.{TakenUnit, all_made, asked_positions, data_copies, pdus_made, pdus_of, position_with, surely_taken, units_along, units_from, units_shown, units_taken}
 pub use Rattle.rasta_check.specs.Model.Theorem.{Appends, HandsUpUnits, OfConnection, units_handed, units_listed}
-pub use Rattle.rasta_check.specs.Model.World.{KeepsLimit, Move, Moves, Reaches, Station, World, arrives, begins, end_of, first_station, goes_on, makes, other_side, repeats, side_moves, station_of, takes, waits}
+pub use Rattle.rasta_check.specs.Model.World.{KeepsLimit, KeepsRange, Move, Moves, Reaches, Station, World, arrives, begins, end_of, first_station, goes_on, makes, other_side, repeats, side_moves, station_of, takes, waits}
 unfoldable pub use Rattle.rasta_check.specs.Run.Levels.{makes_at, takes_at}
 pub use Rattle.rasta_check.specs.Run.Lines.{lines_of_move, told}
 pub use Rattle.rasta_check.specs.Run.Moves.{Happened, Runs, does, starts}

@@ -2,4 +2,5 @@
 pub mod SentRuns
 pub mod ListedUnits
 pub mod ShowingPdus
+pub mod Middle
 pub mod JoinedMessages

@@ -3,3 +3,5 @@ pub mod World
 pub mod Taken
 pub mod Laws
 pub mod Theorem
+pub mod Settled
+pub mod Middle

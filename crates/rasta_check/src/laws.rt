@@ -11,6 +11,8 @@ ghost use Rattle.rasta_check.specs.Capture.Crossing.{AreSentLists, Crossing};
 ghost use Rattle.rasta_check.specs.Capture.Reading.{crossing_of};
 ghost use Rattle.rasta_check.specs.Capture.Faults.{Impossible, packets_through, IsFaultlessCapture, IsRefusedCapture};
 ghost use Rattle.rasta_check.specs.Model.Laws;
+ghost use Rattle.rasta_check.specs.Model.Settled.{SettledUnits};
+ghost use Rattle.rasta_check.specs.Model.Middle.{FromTheMiddle};
 ghost use Rattle.rasta_check.specs.Model.Theorem.{OfConnection, SentLists, Definite, Necessity};
 ghost use Rattle.rasta_check.specs.Run.Laws.{OneLineEach, SameRuns, Simulation};
 ghost use Rattle.rasta_check.specs.Script.Laws.{Sharpness, Complete, Stuck, Agree, OneAnswer, OneVerdict};
@@ -28,6 +30,18 @@ pub fn asks()
 /// The units conveyed through the last position of an end that owes nothing are those that it offered.
 pub fn units()
     ensures { Laws.Units }
+{}
+
+/// Where types settle how many units lag behind at a position, the units conveyed through it are all but so
+/// many of those offered up to it.
+pub fn settled_units()
+    ensures { SettledUnits }
+{}
+
+/// Data that some packets of a run show, whatever is missing between them, had been handed up when the PDU that
+/// shows them crossed.
+pub fn from_the_middle()
+    ensures { (p : Parameters) → OfConnection p → FromTheMiddle p }
 {}
 
 /// A PDU confirms the position that its end accepted last, and no other.

@@ -21,9 +21,10 @@ use Rattle.rasta_end.specs.MakeRule.{make_fault, after_make}
 use Rattle.rasta_end.specs.TakeRule.{after_take}
 use Rattle.rasta_end.specs.Starts.{start_of}
 use Rattle.rasta_end.proofs.MakeTests.{no_fault, no_test}
-use Rattle.rasta_check.specs.Capture.SentLists.{FirstCopy, Spells, Sent, CrossRecorded}
+use Rattle.rasta_check.specs.Capture.SentLists.{FirstCopy, IsCarried, Spells, Sent, CrossRecorded}
 use Rattle.rasta_check.specs.Capture.PacketFaults.{packet_fault}
-use Rattle.rasta_check.specs.Model.World.{World, Reaches}
+use Rattle.rasta_check.specs.Model.World.{World, Reaches, KeepsRange}
+use Rattle.rasta_check.specs.Model.Middle.{CrossAt, Settles, plain, none_behind, fresh, Shows, FromTheMiddle}
 use Rattle.rasta_check.specs.Model.Taken.{TakenUnit, pdus_made, all_made, surely_taken}
 use Rattle.rasta_check.specs.Script.Fitting.{Fits, FirstFault, at_entry, after_last}
 use Rattle.rasta_check.specs.Script.Following.{ScriptCursor, Advances, takes_next, makes_next, Leads, at_start}
@@ -257,8 +258,9 @@ pub tried_sent_lists : SentLists connection → (ws : List World) (w : World) �
     → (pdus_made w.client.state.made ≡ all_made connection Client from_client) × (pdus_made w.server.state.made ≡ all_made connection Server from_server)
 tried_sent_lists law ws w r e =
     let within = law.within ws w from_client from_server r (client_crossed w e) (server_crossed w e) (omega arith) (omega arith) in
-    let c = law.made ws w Client r within in
-    let s = law.made ws w Server r within in
+    let near : KeepsRange connection w = λ side. omega (arith, within side) in
+    let c = law.made ws w Client r near in
+    let s = law.made ws w Server r near in
     let same_c = law.one_list w.crossed Client from_client c.0 (client_crossed w e) c.1.list (omega arith) in
     let same_s = law.one_list w.crossed Server from_server s.0 (server_crossed w e) s.1.list (omega arith) in
     (c.1.made ∙ sym (ap (all_made connection Client) same_c), s.1.made ∙ sym (ap (all_made connection Server) same_s))
@@ -296,6 +298,32 @@ tried_necessity law ws w r e =
       (n.first.0, n.first.1 ∙ ap (λ (us : List TakenUnit). units_listed us ++ n.first.0) listed),
       λ v next at. n.in_time 0 unit v next (ap (λ (us : List TakenUnit). slice_get us 0) listed) at,
     )
+
+-- the heartbeat shows the data, wherever in a connection both cross
+pub tried_shows : Shows connection packets Client offered beaten
+tried_shows =
+    let own : IsCarried connection packets Client offered = record { packet = first; there = refl; of_side = refl; spelled = offer_spelled } in
+    let settled : Settles connection packets Client 102 0 = plain offered own refl refl in
+    record {
+      carried = own;
+      own_lag = 0;
+      own = fresh refl;
+      shown_by = record { packet = second; there = refl; of_side = refl; spelled = beat_spelled };
+      confirms = refl;
+      lag = 0;
+      settled = settled;
+      later = 0;
+      behind = none_behind (omega arith);
+      enough = omega arith;
+    }
+
+-- so the server had handed up both messages before the heartbeat crossed, in every run in which both cross, with or without others
+pub tried_from_the_middle : FromTheMiddle connection → (ws : List World) (w : World) → Reaches connection ws w → KeepsRange connection w → (i j : ℕ)
+    → CrossAt (i ∷ j ∷ []) packets w.crossed → (unit : ℕ) × ((v next : World) → Appends ws w j v next → HasHandedUp v.server.state unit content)
+unfolding messages_of
+tried_from_the_middle law ws w r within i j cross =
+    let s = (law ws w Client packets (i ∷ j ∷ []) r within cross).in_time offered beaten tried_shows in
+    (s.0, λ v next at. s.2 j v next refl at)
 
 -- in some run that sends the packets, nothing else was handed up
 pub tried_sharpness : Sharpness connection → (ws : List World) × (w : World) × Reaches connection ws w × (w.crossed ≡ packets) × (units_handed w.server.state ≡ content ∷ []) × (units_handed w.client.state ≡ [])

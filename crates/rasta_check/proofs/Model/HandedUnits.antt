@@ -148,7 +148,7 @@ module _ (q : Parameters) (e f : EndState) (t u : ℕ) (m : Made) (p : ℕ) (k :
 pub hands_up : (e f : EndState) → Handed e f → HandsUp e f
 hands_up e f w = grind arith
 
-messages_by_content : (body : SafetyBody) → messages_in body ≡ messages_of (content_of body)
+pub messages_by_content : (body : SafetyBody) → messages_in body ≡ messages_of (content_of body)
 unfolding messages_of
 messages_by_content body = grind arith
 

@@ -1,7 +1,7 @@
 -- What of an end stays along a run, and the worlds of a run.
 use Rattle.std.proofs.Common.{◌≡◌, ℕ, suc, ◌+◌, ◌<◌, ◌≤◌, List, [], ◌∷◌, ◌++◌, length, Some, slice_get, sym, ◌∙◌, arith, ⊎_elim, subst}
 use Rattle.rasta_check.proofs.Prelude.{length_push, slice_get_within, dec_lt, yes, no, Side, Client, Server, Packet, Parameters, AreParameters, Made, EndState, start_of, FirstCopy}
-use Rattle.rasta_check.proofs.Prelude.{Station, World, Move, Moves, makes, repeats, takes, station_of, end_of, other_side, Reaches, begins, goes_on, KeepsLimit, Appends, get_push_cases}
+use Rattle.rasta_check.proofs.Prelude.{Station, World, Move, Moves, makes, repeats, takes, station_of, end_of, other_side, Reaches, begins, goes_on, KeepsRange, Appends, get_push_cases}
 use Rattle.rasta_check.proofs.Prelude.{all_push, get_front, get_front_within, get_push, slice_get_some}
 use Rattle.rasta_check.specs.Model.World.{Step}
 use Rattle.rasta_check.proofs.Model.TakeRows.{take_made}
@@ -41,7 +41,7 @@ stepped p v w step = grind (arith, end_moves, same_grown)
 pub record After (p : Parameters) (v w : World) (side : Side) (own peer : List FirstCopy) : Type 0 where
   pub us : List World
   pub reached : Reaches p us v
-  pub few : KeepsLimit p v
+  pub few : KeepsRange p v
   pub grown : (s : Side) → Grown (end_of v s) (end_of w s)
   pub less : length v.crossed ≤ length w.crossed
   pub told : Both p side (other_side side) v.crossed (station_of v side) (station_of v (other_side side))
@@ -59,7 +59,7 @@ abbrev History : Parameters → List World → World → Side → Type 0
 History p ws w side = (g : Both p side (other_side side) w.crossed (station_of w side) (station_of w (other_side side)))
     × ((i : ℕ) (v : World) → slice_get (ws ++ w ∷ []) i ≡ Some v → After p v w side g.own g.peer)
 
-with_itself : (p : Parameters) (ws : List World) (w : World) (side : Side) → Reaches p ws w → KeepsLimit p w → (g : Both p side (other_side side) w.crossed (station_of w side) (station_of w (other_side side)))
+with_itself : (p : Parameters) (ws : List World) (w : World) (side : Side) → Reaches p ws w → KeepsRange p w → (g : Both p side (other_side side) w.crossed (station_of w side) (station_of w (other_side side)))
     → ((i : ℕ) (v : World) → slice_get ws i ≡ Some v → After p v w side g.own g.peer) → History p ws w side
 with_itself p ws w side r b g earlier = (
   g,
@@ -67,14 +67,14 @@ with_itself p ws w side r b g earlier = (
       (record { us = ws; reached = r; few = b; grown = λ s. same_grown (end_of w s); less = omega arith; told = g; mine = all_crossed _ g.own; theirs = all_crossed _ g.peer }),
 )
 
-pub history : (p : Parameters) (valid : AreParameters p) (ws : List World) (w : World) (side : Side) → Reaches p ws w → KeepsLimit p w → History p ws w side
+pub history : (p : Parameters) (valid : AreParameters p) (ws : List World) (w : World) (side : Side) → Reaches p ws w → KeepsRange p w → History p ws w side
 history p valid ws w side (begins m n) b = with_itself p [] w side (begins m n) b (told_by p valid [] w side (begins m n)) (λ i v x. absurd (cc))
 history p valid ws w side (goes_on {ws = us} {w = u} r st) b = step (history p valid us u side r few)
   where
     sd : Stepped u w
     sd = stepped p u w st
 
-    few : (s : Side) → length (end_of u s).made ≤ (start_of p s).base + 1000000
+    few : (s : Side) → length (end_of u s).made ≤ (start_of p s).base + 2147483647
     few s = (let z = (sd.ends s).longer in let y = b s in omega arith)
 
     step : History p us u side → History p (us ++ u ∷ []) w side

@@ -52,8 +52,8 @@ pub record Taken (e f : EndState) (t u : ℕ) (m : Made) (p : ℕ) : Type 0 wher
   pub theirs : Held f u e.made
   pub there : slice_get f.made p ≡ Some m
   pub above : t ≤ p
-  pub few : length e.made ≤ 1000001
-  pub few_theirs : length f.made ≤ 1000001
+  pub few : length e.made ≤ 2147483648
+  pub few_theirs : length f.made ≤ 2147483648
 
 module _ (q : Parameters) (e f : EndState) (t u : ℕ) (m : Made) (p : ℕ) (k : Taken e f t u m p) where
   pub here : SnIs f.made p m.pdu.sn

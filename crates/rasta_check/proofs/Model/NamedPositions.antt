@@ -18,7 +18,7 @@ pub sn_from_first : (ms : List Made) (i : ℕ) (m : Made) → Numbered ms → sl
 sn_from_first ms i m h g = grind arith
 
 -- an SN names one position
-pub numbered_once : (ms : List Made) → length ms ≤ 1000001 → Numbered ms
+pub numbered_once : (ms : List Made) → length ms ≤ 2147483648 → Numbered ms
     → (i j : ℕ) (x y : Made) → slice_get ms i ≡ Some x → slice_get ms j ≡ Some y → x.pdu.sn ≡ y.pdu.sn → i ≡ j
 numbered_once ms b h i j x y ex ey s =
     let l = slice_get_within ms i x ex in
@@ -40,7 +40,7 @@ pub sn_mod : (ms : List Made) (i sn : ℕ) → Numbered ms → SnIs ms i sn → 
 sn_mod ms i sn h s = ap (λ n. n % 2 ^ 32) (sym s.same) ∙ sn_from_first ms i s.m h s.there
 
 -- an SN after that of position i names the position that is so far after it
-pub position_is : (ms : List Made) (i p u v : ℕ) → Numbered ms → length ms ≤ 1000001 → SnIs ms p u → SnIs ms i v → i < p → i + suc (ahead_by u (v + 1)) ≡ p
+pub position_is : (ms : List Made) (i p u v : ℕ) → Numbered ms → length ms ≤ 2147483648 → SnIs ms p u → SnIs ms i v → i < p → i + suc (ahead_by u (v + 1)) ≡ p
 position_is ms i p u v h b x y l =
     let w : p < length ms = slice_get_within ms p x.m x.there in
     omega (arith, sn_mod ms p u h x, sn_mod ms i v h y)

@@ -110,7 +110,7 @@ last_most (v ∷ vs) n h = h (length vs) (last_of (v ∷ vs)) (last_get (v ∷ v
 
 -- What a row adds to the contents of the units offered: nothing, or one.
 
-abbrev added : Kind → List ℕ → List (List ℕ)
+abbrev pub added : Kind → List ℕ → List (List ℕ)
 added Data content = content ∷ []
 added _ content = []
 
@@ -123,7 +123,7 @@ adds : {s : Side} {ph : Phase} {why : Why} {k : Kind} {os : List Owed} {row : Ma
     → length (contents ms) ≡ n → Making s ph why k os row → differs ms (Some row) content ≡ false → Adds ms n k content (unit_of row n) (offered_after row n)
 adds ms n content l how d = grind (arith, append-nil, bytes_eq-Decides, get_push)
 
-contents_push : (ms : List Made) (m : Made) → contents (ms ++ m ∷ []) ≡ contents ms ++ added m.pdu.kind (content_of m.pdu.body)
+pub contents_push : (ms : List Made) (m : Made) → contents (ms ++ m ∷ []) ≡ contents ms ++ added m.pdu.kind (content_of m.pdu.body)
 contents_push [] m = grind arith
 contents_push (x ∷ ms) m = grind (arith, contents_push ms m)
 
@@ -144,10 +144,10 @@ module _ (p : Parameters) (e : EndState) (x : SafetyPdu) (clock : ℕ) (why : Wh
   abbrev new : Made
   new = new_made b.row e x
 
-  abbrev value : ℕ
+  abbrev pub value : ℕ
   value = units_after e.asks (values e) (answers_in e.made) x.kind
 
-  pushed : values after ≡ values e ++ value ∷ []
+  pub pushed : values after ≡ values e ++ value ∷ []
   pushed = values_push e.asks e.made new
 
   long : length (values e) ≡ length e.made
@@ -156,26 +156,28 @@ module _ (p : Parameters) (e : EndState) (x : SafetyPdu) (clock : ℕ) (why : Wh
   abbrev next : ℕ
   next = units_next (jump e) (last_of (values e)) x.kind
 
-  value_is : value ≡ next
+  pub value_is : value ≡ next
   value_is = after_is e.asks (values e) (answers_in e.made) x.kind (λ u. omega (arith, long, w.grown (unit_runs b.how u)))
 
+  -- a client that has made nothing owes nothing
+  pub owes_nothing : e.side ≡ Client → e.phase ≡ Closed → e.owed ≡ []
+  owes_nothing s c = (h.opening.unmade s (nothing_made e.side e.phase e.made c pass.open_yet)).1
+
   step : Leads (jump e) (last_of (values e)) e.offered e.phase x.kind b.row e.owed
-  step =
-      -- a client that has made nothing owes nothing
-      leads (jump e) (last_of (values e)) e.offered (λ s c. (h.opening.unmade s (nothing_made e.side e.phase e.made c pass.open_yet)).1) b.how (w.due pass.open_yet)
+  step = leads (jump e) (last_of (values e)) e.offered owes_nothing b.how (w.due pass.open_yet)
 
   value_most : value ≤ after.offered
   value_most = grind (arith, step, value_is, last_most (values e) e.offered w.positions.bounded, offered_least b.row e.offered, due_le next after.offered after.owed)
 
   -- The units conveyed through each position.
 
-  at_new : slice_get (values e ++ value ∷ []) (length e.made) ≡ Some value
+  pub at_new : slice_get (values e ++ value ∷ []) (length e.made) ≡ Some value
   at_new = rw (← long) (get_push (values e) value)
 
   both_old : (i j : ℕ) → slice_get (values e) i ≡ slice_get (values e) j → i < length e.made → j < length e.made → slice_get (values e ++ value ∷ []) i ≡ slice_get (values e ++ value ∷ []) j
   both_old i j g a c = get_front_within (values e) (value ∷ []) i (omega (arith, long, a)) ∙ (g ∙ sym (get_front_within (values e) (value ∷ []) j (omega (arith, long, c))))
 
-  previous : (i : ℕ) → length e.made ≡ suc i → slice_get (values e ++ value ∷ []) i ≡ Some (last_of (values e))
+  pub previous : (i : ℕ) → length e.made ≡ suc i → slice_get (values e ++ value ∷ []) i ≡ Some (last_of (values e))
   previous i g = get_front (values e) (value ∷ []) i _ (last_get (values e) i (long ∙ g))
 
   pub valued_make : Valued after
@@ -210,7 +212,7 @@ module _ (p : Parameters) (e : EndState) (x : SafetyPdu) (clock : ℕ) (why : Wh
 -- ---- a take
 
 module _ (q : Parameters) (e f : EndState) (t u : ℕ) (m : Made) (p : ℕ) (k : Taken e f t u m p) (w : Valued e) (free : e.owed ≡ []) (away : is_closed e.phase ≡ false) where
-  bare_due : last_of (values e) ≡ e.offered
+  pub bare_due : last_of (values e) ≡ e.offered
   bare_due = bare_rest (jump e) (last_of (values e)) e.offered e.owed free (w.due (grind arith))
 
   inner_some : (row : TakeRow) → Knows q row e m.pdu → is_inner row ≡ true → 0 < length e.made
@@ -219,14 +221,14 @@ module _ (q : Parameters) (e f : EndState) (t u : ℕ) (m : Made) (p : ℕ) (k :
   -- A request's ask joins the asks.
 
   -- the end once it has
-  abbrev asked : EndState
+  abbrev pub asked : EndState
   asked = record e { asks = e.asks ++ position_confirmed e m.pdu ∷ [] }
 
-  same_values : values asked ≡ values e
+  pub same_values : values asked ≡ values e
   same_values = values_asks e.asks _ e.made k.mine.asks.asked
 
   -- the units conveyed through the ask
-  abbrev back : ℕ
+  abbrev pub back : ℕ
   back = units_conveyed e.asks (kinds e.made) (position_confirmed e m.pdu)
 
   burst_jump : jump asked ≡ back

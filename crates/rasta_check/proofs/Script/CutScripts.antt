@@ -90,7 +90,7 @@ exactly : (p : Parameters) (ws : List World) (w : World) (x : Side) (own peer : 
     → length own ≤ 1000000 → length peer ≤ 1000000 → (end_of w (other_side x) ≡ start_of p (other_side x)) ⊎ JustMade p peer (end_of w (other_side x))
     → units_handed (end_of w (other_side x)) ≡ units_listed (surely_taken p x own peer)
 exactly p ws w x own peer r sent theirs few few_theirs last =
-    let k = known p ws w x own peer r sent theirs few few_theirs in
+    let k = known p ws w x own peer r sent theirs (omega (arith, few)) (omega (arith, few_theirs)) in
     let e = end_of w (other_side x) in
     let f = end_of w x in
     exactly_listed p x e f own peer k.sends.same (hands_up_units e f k.all.mine.values k.all.theirs.handed) k.taken

@@ -256,7 +256,7 @@ told_by p h1 ws w side h2 = grind (arith, told)
 
 -- the same for given lists of first copies
 pub told_of : (p : Parameters) (ws : List World) (w : World) (side : Side) (own peer : List FirstCopy) → Reaches p ws w → IsSent p w.crossed side own → IsSent p w.crossed (other_side side) peer
-    → length own ≤ 1000000 → length peer ≤ 1000000 → (g : Both p side (other_side side) w.crossed (station_of w side) (station_of w (other_side side))) × (g.own ≡ own) × (g.peer ≡ peer)
+    → length own ≤ 2147483647 → length peer ≤ 2147483647 → (g : Both p side (other_side side) w.crossed (station_of w side) (station_of w (other_side side))) × (g.own ≡ own) × (g.peer ≡ peer)
 told_of p ws w side own peer r mine theirs few few_theirs =
     let g = told_by p mine.valid ws w side r in
     (g, sym (sent_once p w.crossed side own g.own mine g.sends.sent (omega arith)), sym (sent_once p w.crossed (other_side side) peer g.peer theirs g.their_sends.sent (omega arith)))
@@ -277,7 +277,7 @@ pub complete : (p : Parameters) (ws : List World) (w : World) (c s : List FirstC
     × Follows p Client (length w.crossed) c s cs w.client.state × Follows p Server (length w.crossed) s c ss w.server.state
     × (length cs + length ss ≤ most_entries) × ClocksWithin n cs × ClocksWithin n ss
 complete p ws w c s r hc hs lc ls n bc bs =
-    let g = told_of p ws w Client c s r hc hs lc ls in
+    let g = told_of p ws w Client c s r hc hs (omega (arith, lc)) (omega (arith, ls)) in
     let a = rw (g.1, g.2) at (told_whole p Client _ g.0.own g.0.peer _ _ _ n g.0.told bc) in
     let b = rw (g.1, g.2) at (told_whole p Server _ g.0.peer g.0.own _ _ _ n g.0.their_told bs) in
     (a.0, b.0, a.1, b.1, omega (arith, a.2, b.2), a.3, b.3)

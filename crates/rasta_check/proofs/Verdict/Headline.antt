@@ -1,7 +1,7 @@
 -- The headline of a verdict, from the theorem over runs.
 use Rattle.std.specs.Prelude.{take}
 use Rattle.std.proofs.lemmas.Grind.{flat_map-append}
-use Rattle.std.proofs.Common.{◌≡◌, ℕ, ◌-◌, List, [], length, Ok, Some, slice_get, refl, ap, sym, ◌∙◌, arith, subst}
+use Rattle.std.proofs.Common.{◌≤◌, ◌≡◌, ℕ, ◌-◌, List, [], length, Ok, Some, slice_get, refl, ap, sym, ◌∙◌, arith, subst}
 use Rattle.rasta_check.proofs.Prelude.{if◌then◌else◌, Side, Client, Server, Packet, Parameters, Scripts, Entry, EndState, FirstCopy, World, end_of, other_side, Reaches}
 use Rattle.rasta_check.proofs.Prelude.{surely_taken, pdus_of, all_made, units_shown, units_taken, units_from, data_copies, follow, units_handed, units_listed, Crossing, IsCrossing}
 use Rattle.rasta_check.proofs.Prelude.{sent_by, messages_taken, numbered_from, Explained, report_of, BothFit, shown_by, proofs_from, is_kind, ConnectionRequest}
@@ -41,8 +41,11 @@ module _ (p : Parameters) (packets : List Packet) (c s : List FirstCopy) (h : Is
     run_sent : (side : Side) → IsSent p w.crossed side (sent_by k side)
     run_sent side = rw same (list_of k h side)
 
+    short : (x : Side) → length (sent_by k x) ≤ 2147483647
+    short x = omega (arith, few_of k h x)
+
     kn : Known p w side own peer
-    kn = known p ws w side own peer r (run_sent side) (run_sent (other_side side)) (few_of k h side) (few_of k h (other_side side))
+    kn = known p ws w side own peer r (run_sent side) (run_sent (other_side side)) (short side) (short (other_side side))
 
     -- what a PDU of the peer shows by the end that this side reached, and by the lists
     shown : (i : ℕ) (d : FirstCopy) → slice_get peer i ≡ Some d → shown_by (end_of w side) d.pdu.safety ≡ units_shown (all_made p side own) (pdus_of peer) d.pdu.safety
@@ -66,20 +69,20 @@ module _ (p : Parameters) (packets : List Packet) (c s : List FirstCopy) (h : Is
         let us = surely_taken p side own peer in
         let e = end_of w side in
         let f = end_of w (other_side side) in
-        let up = hands_up p ws w side own peer r (run_sent side) (run_sent (other_side side)) (few_of k h side) (few_of k h (other_side side)) in
+        let up = hands_up p ws w side own peer r (run_sent side) (run_sent (other_side side)) (short side) (short (other_side side)) in
         let offered = offered_first f e up in
-        let first = first p ws w side own peer r (run_sent side) (run_sent (other_side side)) (few_of k h side) (few_of k h (other_side side)) in
+        let first = first p ws w side own peer r (run_sent side) (run_sent (other_side side)) (short side) (short (other_side side)) in
         record {
           labels = rw (twice side) up.labels;
           units = (offered.0, rw (twice side) offered.1);
           first = (joined first.0, rw (up_joined, first.1, is, listed_joined) (flat_map-append (λ (ms : List (List ℕ)). ms) (units_listed us) first.0));
           appended = λ i m g.
               (let o = of_listed us i m (rw is at g) in
-              rw o.place (proof_appended p ws w side own peer r (run_sent side) (run_sent (other_side side)) (few_of k h side) (few_of k h (other_side side)) o.i o.u o.there));
+              rw o.place (proof_appended p ws w side own peer r (run_sent side) (run_sent (other_side side)) (short side) (short (other_side side)) o.i o.u o.there));
           in_time = λ i m v next g a.
               (let o = of_listed us i m (rw is at g) in
               rw up_joined (message_up us i m.proof_place m.message o (units_handed (end_of v (other_side side))) (λ j t low gt.
-              in_time_through p ws w side own peer r (run_sent side) (run_sent (other_side side)) (few_of k h side) (few_of k h (other_side side)) o.i j o.u t v next low o.there gt (rw o.place at a))));
+              in_time_through p ws w side own peer r (run_sent side) (run_sent (other_side side)) (short side) (short (other_side side)) o.i j o.u t v next low o.there gt (rw o.place at a))));
         }
 
   -- ---- the lists of the report

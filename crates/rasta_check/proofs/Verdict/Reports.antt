@@ -18,7 +18,7 @@ at_distance : (ms : List Made) (sn i : ℕ) (m : Made) → Numbered ms → first
 at_distance ms sn i m h g k l n = grind arith
 
 -- the units at the position that a CS names are those at its distance
-pub units_named : (ms : List Made) (vs : List ℕ) (cs : ℕ) → Numbered ms → length ms ≤ 1000001 → length vs ≡ length ms → first_sn ms < 2 ^ 32 → cs < 2 ^ 32
+pub units_named : (ms : List Made) (vs : List ℕ) (cs : ℕ) → Numbered ms → length ms ≤ 2147483648 → length vs ≡ length ms → first_sn ms < 2 ^ 32 → cs < 2 ^ 32
     → slice_index_or vs (ahead_by cs (first_sn ms)) 0 ≡ units_at vs (position_with (pdus_made ms) cs)
 units_named ms vs cs h b l f small = by (position_with (pdus_made ms) cs) refl
   where

@@ -1,5 +1,5 @@
 -- Laws on every run: what the headline stands on. Each holds at every world in which no end has sent more than
--- 1,000,000 PDUs.
+-- 2^31 - 1 PDUs.
 use Rattle.std.specs.Prelude.{◌≡◌, ℕ, zero, suc, ◌<◌, List, [], ◌∷◌, ◌++◌, length, Some, slice_get, filter, true, false}
 use Rattle.rasta_pcap.specs.declared.fault.Side.{Side}
 use Rattle.rasta_pdu.specs.Params.{Parameters}
@@ -8,13 +8,13 @@ use Rattle.rasta_end.specs.declared.why.Why.{Why}
 use Rattle.rasta_end.specs.State.{Made, EndState, kinds}
 use Rattle.rasta_end.specs.Units.{all_units_conveyed, units_conveyed, last_of, responses_in}
 use Rattle.rasta_end.specs.MakeRule.{Makes, has_ended}
-use Rattle.rasta_check.specs.Model.World.{World, other_side, end_of, Reaches, KeepsLimit}
+use Rattle.rasta_check.specs.Model.World.{World, other_side, end_of, Reaches, KeepsRange}
 use Rattle.rasta_check.specs.Model.Taken.{pdus_made, asked_positions, position_with}
 use Rattle.rasta_pdu.specs.declared.kind.Kind.TheVariants.{RetransmissionRequest, RetransmissionResponse}
 
 -- what holds of each end and its peer, at every world of a run
 abbrev pub Always : (EndState → EndState → Type 0) → Parameters → Type 0
-Always Holds p = (ws : List World) (w : World) (side : Side) → Reaches p ws w → KeepsLimit p w
+Always Holds p = (ws : List World) (w : World) (side : Side) → Reaches p ws w → KeepsRange p w
     → Holds (end_of w side) (end_of w (other_side side))
 
 -- ---- an SN names one position

@@ -11,7 +11,7 @@ use Rattle.rasta_end.specs.State.{Made, EndState}
 use Rattle.rasta_end.specs.Starts.{start_of}
 use Rattle.rasta_check.specs.Capture.SentLists.{FirstCopy, Sent}
 use Rattle.rasta_check.specs.Capture.PacketFaults.{packet_fault}
-use Rattle.rasta_check.specs.Model.World.{World, other_side, end_of, Reaches, most_sent, KeepsLimit}
+use Rattle.rasta_check.specs.Model.World.{World, other_side, end_of, Reaches, most_sent, KeepsLimit, KeepsRange}
 use Rattle.rasta_check.specs.Model.Taken.{pdus_made, all_made, TakenUnit, surely_taken}
 use Rattle.rasta_check.specs.Model.Laws.{HandsUp}
 use Rattle.rasta_pdu.specs.declared.kind.Kind.TheVariants.{Data}
@@ -49,7 +49,7 @@ pub record IsMade (p : Parameters) (ws : List World) (w : World) (side : Side) (
 -- crossed; each packet is appended to one of the worlds; a run with sent lists within the limits is within them; and
 -- packets have one sent list of fewer than 2^32 PDUs a side
 pub record SentLists (p : Parameters) : Type 0 where
-  pub made : (ws : List World) (w : World) (side : Side) → Reaches p ws w → KeepsLimit p w
+  pub made : (ws : List World) (w : World) (side : Side) → Reaches p ws w → KeepsRange p w
       → (sent : List FirstCopy) × IsMade p ws w side sent
   pub appended : (ws : List World) (w : World) (place : ℕ) → Reaches p ws w → place < length w.crossed
       → (v next : World) × Appends ws w place v next

@@ -106,6 +106,14 @@ pub data Reaches (p : Parameters) : List World → World → Type 0 where
   begins : (m n : ℕ) → Reaches p [] (first_world p m n)
   goes_on : {ws : List World} {w w' : World} → Reaches p ws w → Step p w w' → Reaches p (ws ++ w ∷ []) w'
 
+-- the most PDUs that an end may have made since the start for their SNs to tell their order
+abbrev pub most_ordered : ℕ
+most_ordered = 2147483647
+
+-- no end has made more than that
+abbrev pub KeepsRange : Parameters → World → Type 0
+KeepsRange p w = (side : Side) → length (end_of w side).made ≤ (start_of p side).base + most_ordered
+
 -- the most PDUs that an end may have sent
 abbrev pub most_sent : ℕ
 most_sent = 1000000
