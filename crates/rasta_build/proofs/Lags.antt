@@ -123,7 +123,7 @@ accept_there_is : (slot q : ℕ) (c : FirstCopy) (b b2 : Built) → take_step sl
 accept_there_is slot q c b b2 h k = (let z : (b2.end.state.accepted == suc q) ≡ true = is_same b2.end.state.accepted (suc q) k in rw h (rw z refl))
 
 module _ (p : Parameters) (start : Option ℕ) (side : Side) (quiet_sn : Option ℕ) (e : EndState) (taken : ℕ) (ms : List Made) (sent : List FirstCopy) (b : Built) (base n : ℕ)
-    (copies : AreCopies quiet_sn sent ms base n) (few : length ms ≤ 1000001)
+    (copies : AreCopies quiet_sn sent ms base n) (few : length ms ≤ 2147483648)
     (free : e.owed ≡ []) (fault : take_fault p e e.clock ≡ None) (more : ConveysNoMore e)
     (q : ℕ) (m : Made) (there : slice_get ms q ≡ Some m) (above : taken ≤ q) (based : base ≤ q) (row : TakeRow) (is : take_row p e m.pdu ≡ Some row)
     (asks : length (effect p row e m.pdu).asks ≤ number (is_kind RetransmissionRequest) (take (suc q) ms)) where

@@ -120,7 +120,7 @@ moved p s r xs ys a a' b own peer big_own big_peer ba bb valid turned apart (rep
 moved p s r xs ys a a' b own peer big_own big_peer ba bb valid turned apart (arrives position low i) h few' values' bounded begun fa fb = inl (record { sent = h.sends.sent; their_sent = h.their_sends.sent; mine = fa; theirs = fb })
 moved p s r xs ys a a' b own peer big_own big_peer ba bb valid turned apart (takes position m after c above there tk) h few' values' bounded begun fa fb =
     let copies = found_there p s r xs peer big_peer b.state b.first_number h.their_sends begun in
-    let k : Taken a.state b.state a.mark b.mark m position = record { mine = h.held; theirs = h.their_held; there = there; above = above; few = h.few; few_theirs = h.their_few } in
+    let k : Taken a.state b.state a.mark b.mark m position = record { mine = h.held; theirs = h.their_held; there = there; above = above; few = omega (arith, h.few); few_theirs = omega (arith, h.their_few) } in
     let f = follows_take p (start_of p s).deadline s (peer_quiet_sn p.quiet s) (base p) a.state b.state a.mark b.mark m position k a.clock h.clock tk.0 h.values big_peer ba (length xs) copies (let z = h.based in omega (arith, z, above)) fa in
     let same : a.state.made ≡ after.made = sym (take_made p a.state m.pdu) ∙ ap (λ (z : EndState). z.made) (sym tk.1) in
     inl (record {

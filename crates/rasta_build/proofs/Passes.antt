@@ -10,14 +10,14 @@ use Rattle.rasta_pcap.specs.Fault.{too_many_entries}
 use Rattle.rasta_check.specs.Model.World.{World, Move, Moves, makes, repeats, arrives, takes, waits, Step, side_moves, end_of, Reaches, begins, goes_on, first_world, KeepsLimit}
 use Rattle.rasta_check.proofs.Capture.FirstCopies.{sent_once, sent_none}
 use Rattle.rasta_check.proofs.Model.Steps.{start_base}
-use Rattle.rasta_check.proofs.Model.InvariantOfRuns.{all_held, few_made}
+use Rattle.rasta_check.proofs.Model.InvariantOfRuns.{all_held}
 use Rattle.rasta_check.proofs.Model.History.{stepped}
 use Rattle.rasta_check.proofs.Script.ScriptsOfRuns.{told}
 use Rattle.rasta_build.specs.Proposing.{side_goes}
 use Rattle.rasta_check.proofs.Capture.NextPackets.{cut}
 use Rattle.rasta_build.proofs.SentLists.{later_place}
 use Rattle.rasta_build.proofs.Beginning.{follows_first}
-use Rattle.rasta_build.proofs.Simulation.{Keeps, few_list, step_keeps}
+use Rattle.rasta_build.proofs.Simulation.{Keeps, few_list, few_made, in_range, step_keeps}
 
 -- ---- along a run
 
@@ -82,7 +82,7 @@ module _ (p : Parameters) (valid : AreParameters p) (packets : List Packet) (c s
       let gw = told p valid (us ++ v ∷ []) w (goes_on r st) in
       let fv = few_made p v bv in
       let fw = few_made p w b in
-      step_keeps p valid c s v w st gv gw (all_held p us v Client r bv) (all_held p (us ++ v ∷ []) w Client (goes_on r st) b) bv b k
+      step_keeps p valid c s v w st gv gw (all_held p us v Client r (in_range p v bv)) (all_held p (us ++ v ∷ []) w Client (goes_on r st) (in_range p w b)) bv b k
       (begun Client c gv.own v v.client (o.tail ++ rest) hc ev gv.sends (fv Client)) (begun Server s gv.peer v v.server (o.tail ++ rest) hs ev gv.their_sends (fv Server))
       (begun Client c gw.own w w.client rest hc e gw.sends (fw Client)) (begun Server s gw.peer w w.server rest hs e gw.their_sends (fw Server))
       (simulated us v r (o.tail ++ rest) ev bv kv)

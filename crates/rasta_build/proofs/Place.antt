@@ -16,7 +16,7 @@ use Rattle.rasta_check.specs.Model.World.{most_sent}
 use Rattle.rasta_check.specs.Model.Theorem.{most_packets}
 use Rattle.rasta_check.specs.Script.Following.{ScriptCursor, Advances, takes_next, makes_next, Leads, at_start, Follows}
 use Rattle.rasta_check.proofs.Run.Simulation.{simulated}
-use Rattle.rasta_check.proofs.Theorem.SentRuns.{known}
+use Rattle.rasta_check.proofs.Theorem.SentRuns.{keeps_limit}
 use Rattle.rasta_check.proofs.Capture.NextPackets.{cut}
 use Rattle.rasta_build.proofs.SentLists.{begun_get, begun_next, sent_rises, sent_numbers, sent_within, later_place}
 use Rattle.rasta_build.proofs.Passes.{Fails, fails, proposed_fails, fails_within, length_take, take_drop, early, finds_none}
@@ -260,7 +260,7 @@ module _ (p : Parameters) (valid : AreParameters p) (packets : List Packet) (c s
       let r = simulated p front kc.0 ks.0 t.own.script t.other.script rc.at.state rs.at.state (recorded_front p front (drop q packets) packets whole recorded) kc.1 ks.1 fits_c fits_s in
       let few_c = fr.most Client in
       let few_s = fr.most Server in
-      let kn = known p r.0 r.1 Client kc.0 ks.0 r.2 (subst (λ (k : List Packet). IsSent p k Client kc.0) (sym r.3) kc.1) (subst (λ (k : List Packet). IsSent p k Server ks.0) (sym r.3) ks.1)
+      let within = keeps_limit p r.0 r.1 kc.0 ks.0 r.2 (subst (λ (k : List Packet). IsSent p k Client kc.0) (sym r.3) kc.1) (subst (λ (k : List Packet). IsSent p k Server ks.0) (sym r.3) ks.1)
       (omega (arith, mc, few_c, lc)) (omega (arith, ms, few_s, ls)) in
       let length_all = ap (λ (k : List Packet). length k) r.3 in
       let clock_c = leads_clock p (length packets) c s (at_start (start_of p Client)) rc.at t.own.script rc.leads rc.entries (start_clock p.slack p.quiet valid.quiet Client) in
@@ -272,7 +272,7 @@ module _ (p : Parameters) (valid : AreParameters p) (packets : List Packet) (c s
         last = r.1;
         reached = r.2;
         crossed = r.3;
-        bounded = record { packets = omega (arith, length_all, lp, low, most); pdus = kn.within; client_clock = omega (arith, at_c, clock_c); server_clock = omega (arith, at_s, clock_s) };
+        bounded = record { packets = omega (arith, length_all, lp, low, most); pdus = within; client_clock = omega (arith, at_c, clock_c); server_clock = omega (arith, at_s, clock_s) };
       }
 
 place_of : (q place n : ℕ) → min (q + 1) 4294967295 ≡ place → q < n → n ≤ 16000000 → q ≡ place - 1

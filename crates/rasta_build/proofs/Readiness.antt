@@ -132,12 +132,12 @@ trail_row p e x RequestedWhileAsking few free is =
     subst (λ n. IsTrail e.offered n (burst e (position_confirmed e x))) (sym z) (trail_burst e (position_confirmed e x) (few _))
 trail_row p e x Disconnected few free is = rw free tt
 
-next_is : (q : ℕ) → q < 1000001 → min (q + 1) 18446744073709551615 ≡ suc q
+next_is : (q : ℕ) → q < 2147483648 → min (q + 1) 18446744073709551615 ≡ suc q
 next_is q l = omega arith
 
 -- and is ready after it
 pub ready_effect : (p : Parameters) (start : Option ℕ) (side : Side) (quiet_sn : Option ℕ) (e : EndState) (taken : ℕ) (ms : List Made) (b : Built) → IsReady p start side quiet_sn e taken ms b
-    → (slot q : ℕ) (x : RedundancyPdu) (row : TakeRow) → q < 1000001 → e.owed ≡ [] → ConveysNoMore e → take_row p e x.safety ≡ Some row
+    → (slot q : ℕ) (x : RedundancyPdu) (row : TakeRow) → q < 2147483648 → e.owed ≡ [] → ConveysNoMore e → take_row p e x.safety ≡ Some row
     → length (effect p row e x.safety).asks ≤ number (is_kind RetransmissionRequest) (take (suc q) ms)
     → IsReady p start side quiet_sn (effect p row e x.safety) (suc q) ms (taken_by (Some row) slot q x b)
 ready_effect p start side quiet_sn e taken ms b r slot q x row l free few is asked =

@@ -3,10 +3,11 @@ use Rattle.std.proofs.Common.{◌≡◌, ℕ, suc, ◌+◌, ◌^◌, ◌<◌, �
 use Rattle.rasta_build.proofs.Prelude.{Side, Client, Server, Packet, Parameters, AreParameters, FirstCopy, Station, IsSent, Sends, sends_count, Built, SidedCopy, first_of, explain}
 use Rattle.rasta_build.proofs.Prelude.{Pass, one_more, pass_on, passes, copy_goes, client_goes, server_goes, Begins}
 use Rattle.std.proofs.lemmas.List.{length_push}
-use Rattle.rasta_check.specs.Model.World.{World, Step, side_moves, KeepsLimit}
+use Rattle.rasta_check.specs.Model.World.{World, Step, side_moves, end_of, KeepsLimit, KeepsRange}
 use Rattle.rasta_check.proofs.Lists.{get_push}
 use Rattle.rasta_check.proofs.Capture.FirstCopies.{sent_once}
-use Rattle.rasta_check.proofs.Model.InvariantOfRuns.{All, few_made}
+use Rattle.rasta_check.proofs.Model.Steps.{base_small, start_base}
+use Rattle.rasta_check.proofs.Model.InvariantOfRuns.{All}
 use Rattle.rasta_check.proofs.Script.ScriptsOfRuns.{Both}
 use Rattle.rasta_build.proofs.SentLists.{begun_get, begun_next}
 use Rattle.rasta_build.proofs.Moves.{FollowsAt, Stays, MadeOne, Stands, moved}
@@ -39,6 +40,14 @@ pass_more : (p : Parameters) (c s : List FirstCopy) (n m : ℕ) (t t' : Pass) �
 pass_more p c s n m t t' e h g = ap (λ k. passes p c s k) e ∙ (ap (λ (r : Result Pass ℕ). pass_on r (one_more c s)) h ∙ g)
 
 -- ---- a world and the next
+
+-- a world within the limits is one of which the laws on runs speak
+pub in_range : (p : Parameters) (w : World) → KeepsLimit p w → KeepsRange p w
+in_range p w within side = omega (arith, within side)
+
+-- how many PDUs an end made within the limits, with a quiet one
+pub few_made : (p : Parameters) (w : World) → KeepsLimit p w → (side : Side) → length (end_of w side).made ≤ 1000001
+few_made p w within side = omega (arith, within side, start_base p.quiet side, base_small p.quiet)
 
 stands_client : (p : Parameters) (w : World) → All w.client w.server → KeepsLimit p w → (g : Both p Client Server w.crossed w.client w.server) → Stands p Client Server w.crossed w.client w.server g.own g.peer
 stands_client p w h b g = (let few = few_made p w b in record {
