@@ -1,5 +1,6 @@
 """States of the repository that are compared: checkouts, and commits that are made into some."""
 import os
+import shutil
 import subprocess
 import sys
 
@@ -25,16 +26,29 @@ def crate_lines(text, names):
     return [line for line in text.splitlines() if line.split(":")[0] in names]
 
 
-def lay_over(folder):
-    """Gives a state that has no workloads those of FIRST, with what they stand on and it lacks."""
-    names = [name for name in [*BESIDE, CRATE] if not os.path.isdir(os.path.join(folder, "crates", name))]
-    if CRATE not in names:
+def is_since(state, commit):
+    """Whether a state, by its commit, is that commit or comes after it."""
+    asked = ["git", "-C", TOP, "merge-base", "--is-ancestor", commit, state]
+    status = subprocess.run(asked, check=False).returncode
+    if status > 1:
+        sys.exit("%s or %s is no commit of this repository" % (commit, state))
+    return status == 0
+
+
+def lay_over(folder, state):
+    """Gives a state from before FIRST the workloads of FIRST, with what they stand on and it lacks."""
+    if is_since(state, FIRST):
         return
+    names = [name for name in BESIDE if not os.path.isdir(os.path.join(folder, "crates", name))] + [CRATE]
+    shutil.rmtree(os.path.join(folder, "crates", CRATE), ignore_errors=True)
     paths = ["crates/%s" % name for name in names]
     subprocess.run(["git", "-C", folder, "checkout", "-q", FIRST, "--", *paths], check=True)
+    listed = os.path.join(folder, "crates.txt")
+    with open(listed, encoding="utf-8") as text:
+        kept = [line for line in text if line.split(":")[0] not in names]
     lines = crate_lines(git(folder, "show", "%s:crates.txt" % FIRST), names)
-    with open(os.path.join(folder, "crates.txt"), "a", encoding="utf-8") as listed:
-        listed.write("\n# The workloads, laid over.\n%s\n" % "\n".join(lines))
+    with open(listed, "w", encoding="utf-8") as text:
+        text.write("%s\n# The workloads, laid over.\n%s\n" % ("".join(kept), "\n".join(lines)))
 
 
 def cloned(commit):
@@ -44,7 +58,7 @@ def cloned(commit):
     if not os.path.isdir(folder):
         subprocess.run(["git", "clone", "-q", "--no-checkout", TOP, folder], check=True)
         git(folder, "checkout", "-q", whole)
-        lay_over(folder)
+        lay_over(folder, whole)
     return folder
 
 
@@ -57,11 +71,7 @@ class State:
 
     def has(self, commit):
         """Whether the state is that commit or comes after it."""
-        asked = ["git", "-C", TOP, "merge-base", "--is-ancestor", commit, self.commit]
-        status = subprocess.run(asked, check=False).returncode
-        if status > 1:
-            sys.exit("%s or %s is no commit of this repository" % (commit, self.commit))
-        return status == 0
+        return is_since(self.commit, commit)
 
     def build(self):
         """Proves and builds the workloads, where that wasn't done."""
