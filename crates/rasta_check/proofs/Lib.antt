@@ -7,4 +7,5 @@ pub mod Capture
 pub mod Script
 pub mod Run
 pub mod Verdict
+pub mod Middle
 pub mod Internals

@@ -1,5 +1,5 @@
 -- Elements of lists that grow at their end, are joined, mapped or cut.
-use Rattle.std.proofs.Common.{◌≡◌, ℕ, zero, suc, ◌+◌, ◌<◌, List, [], ◌∷◌, ◌++◌, length, take, drop, Option, Some, None, slice_get, map, refl, ap, sym, ◌∙◌, arith, ⊎_elim, subst, drop-cons}
+use Rattle.std.proofs.Common.{◌≡◌, ℕ, zero, suc, ◌+◌, ◌-◌, ◌<◌, List, [], ◌∷◌, ◌++◌, length, take, drop, Option, Some, None, slice_get, map, refl, ap, sym, ◌∙◌, arith, ⊎_elim, subst, drop-cons}
 use Rattle.std.specs.List.{AllByRecursion}
 use Rattle.std.specs.Option.{option_map}
 use Rattle.std.proofs.lemmas.List.{length-take, length-take-le, map-append, take_more, take-append-drop}
@@ -24,6 +24,22 @@ slice_get_some (x ∷ xs) (suc k) l = slice_get_some xs k (omega arith)
 
 pub none_within : {A : Type 0} (xs : List A) (i : ℕ) → i < length xs → None ≡ slice_get xs i → ⊥
 none_within xs i l e = (let g = slice_get_some xs i l in let h = g.1 in cc)
+
+-- what rises from each element to the next
+abbrev pub RisesBy : {A : Type 0} → (A → ℕ) → List A → Type 0
+RisesBy {A = A} f xs = (i : ℕ) (a b : A) → slice_get xs i ≡ Some a → slice_get xs (suc i) ≡ Some b → f a < f b
+
+rises_over : {A : Type 0} (f : A → ℕ) (xs : List A) → RisesBy f xs → (d i : ℕ) (a b : A) → slice_get xs i ≡ Some a → slice_get xs (suc d + i) ≡ Some b → f a < f b
+rises_over f xs h zero i a b x y = h i a b x (subst (λ (j : ℕ). slice_get xs j ≡ Some b) (omega arith) y)
+rises_over f xs h (suc d) i a b x y =
+    let mid = slice_get_some xs (suc d + i) (omega (arith, slice_get_within xs (suc (suc d) + i) b y)) in
+    let low = rises_over f xs h d i a mid.0 x mid.1 in
+    let high = h (suc d + i) mid.0 b mid.1 (subst (λ (j : ℕ). slice_get xs j ≡ Some b) (omega arith) y) in
+    omega (arith, low, high)
+
+-- rises from each to any later one
+pub rises_by : {A : Type 0} (f : A → ℕ) (xs : List A) → RisesBy f xs → (i j : ℕ) (a b : A) → slice_get xs i ≡ Some a → slice_get xs j ≡ Some b → i < j → f a < f b
+rises_by f xs h i j a b x y l = rises_over f xs h (j - suc i) i a b x (subst (λ (n : ℕ). slice_get xs n ≡ Some b) (omega arith) y)
 
 -- ---- joined
 

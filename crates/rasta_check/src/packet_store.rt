@@ -2,7 +2,7 @@
 ghost use Rattle.std.specs.Prelude.{◌≡◌, ℕ, ◌∷◌, ◌++◌, [], ◌<◌, length, map, is_some, is_none, option_map, slice_get, None, Some, Ok, Err, IfSome, MatchOption, MatchResult, OnOk, OnErr, ◌⊎◌, nat_lt, not, ◌&&◌, ◌||◌, bytes_eq};
 ghost use Rattle.rasta_pcap.specs.Fault.{no_memory};
 ghost use Rattle.rasta_udp.specs.Frame.{Packet, map_found, packet_of};
-ghost use Rattle.rasta_pdu.specs.Pdu.{RedundancyPdu, decode_of, redundancy_bytes};
+ghost use Rattle.rasta_pdu.specs.Pdu.{RedundancyPdu, decode_of, redundancy_bytes, value_of};
 ghost use Rattle.rasta_pdu.specs.Records.{recorded_packet};
 ghost use Rattle.rasta_check.specs.Capture.SentLists.{FirstCopy, Spells, number_in_bytes};
 ghost use Rattle.rasta_check.specs.Capture.PacketFaults.{is_next_number, packet_fault};
@@ -22,7 +22,7 @@ use crate::sent_list::FirstCopy;
 use crate::sent_packets::{MOST_PACKETS, MOST_SENT, number_in};
 use crate::span_list::SpanList;
 use rasta_pcap::{Fault, Record, Side};
-use rasta_pdu::{Datagram, Params, decode, read_decoded, recorded_packet};
+use rasta_pdu::{Datagram, Params, Pdu, decode, read_decoded, recorded_packet};
 use std::alloc::{AllocError, Global};
 use std::marker::Model;
 
@@ -145,6 +145,19 @@ impl Store {
         let packet = packet_at(&self.packets, place)?;
         let number = self.number_at(packet.side, packet.position)?;
         Some((packet.side, number))
+    }
+
+    /// The sender and the PDU of the packet at a place.
+    #[tactic(auto, using(crate::proofs::Internals::StoreLists::packet_read, crate::proofs::Internals::StoreLists::stored_pdu))]
+    pub fn pdu_at(&self, place: u32) -> Option<(Side, Pdu<'_>)>
+        ensures value { MatchOption result (slice_get self.now.packets place ≡ None)
+            (λ r. (k : Packet) × (slice_get self.now.packets place ≡ Some k) × (r.0 ≡ k.side)
+            × Spells self.now.params k.side (value_of r.1) k.payload) }
+        ensures crossing { IsCrossing self.now }
+    {
+        let packet = packet_at(&self.packets, place)?;
+        let (_, pdu) = self.get(packet.side, packet.position)?;
+        Some((packet.side, pdu))
     }
 
     // How many PDUs a side sent.

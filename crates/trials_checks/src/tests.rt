@@ -5,3 +5,4 @@ mod model;
 mod proposals;
 mod runs;
 mod sent_lists;
+mod shown;

@@ -4,6 +4,7 @@ use Rattle.rasta_check.proofs.Prelude.{option_map, nat_tests, length_push, map-a
 use Rattle.rasta_check.proofs.Prelude.{position_of_number, position_of_place, get_front, get_mapped, get_push, mapped_some, slice_get_some}
 use Rattle.std.proofs.lemmas.List.Quantifiers.{position-Some}
 use Rattle.rasta_check.specs.Capture.Lists.{AreMarks, marked}
+use Rattle.rasta_check.proofs.Lists.{rises_by}
 
 -- ---- the first member with a number
 
@@ -62,16 +63,8 @@ next_new sent h few n next i c g e =
     not_again head.0.pdu.number i (length sent) c.pdu.number n (h.numbers i head.0 c head.1 g) (next head.0 head.1) l few e
 
 -- a later member crosses later
-places_below : (sent : List FirstCopy) → IsOrdered sent → (d i : ℕ) (a b : FirstCopy) → slice_get sent i ≡ Some a → slice_get sent (suc d + i) ≡ Some b → a.place < b.place
-places_below sent h zero i a b x y = h.places i a b x (subst (λ (j : ℕ). slice_get sent j ≡ Some b) (omega arith) y)
-places_below sent h (suc d) i a b x y =
-    let mid = slice_get_some sent (suc d + i) (omega (arith, slice_get_within sent (suc (suc d) + i) b y)) in
-    let low = places_below sent h d i a mid.0 x mid.1 in
-    let high = h.places (suc d + i) mid.0 b mid.1 (subst (λ (j : ℕ). slice_get sent j ≡ Some b) (omega arith) y) in
-    omega (arith, low, high)
-
 pub places_rise : (sent : List FirstCopy) → IsOrdered sent → (i j : ℕ) (a b : FirstCopy) → slice_get sent i ≡ Some a → slice_get sent j ≡ Some b → i < j → a.place < b.place
-places_rise sent h i j a b x y l = places_below sent h (j - suc i) i a b x (subst (λ (n : ℕ). slice_get sent n ≡ Some b) (omega arith) y)
+places_rise sent h i j a b x y l = rises_by (λ (c : FirstCopy). c.place) sent h.places i j a b x y l
 
 -- a place names one position
 pub place_once : (sent : List FirstCopy) → IsOrdered sent → (i j : ℕ) (a b : FirstCopy) → slice_get sent i ≡ Some a → slice_get sent j ≡ Some b → a.place ≡ b.place → i ≡ j

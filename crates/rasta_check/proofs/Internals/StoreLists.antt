@@ -1,6 +1,6 @@
 -- What a store keeps at its positions and places.
 use Rattle.std.proofs.Common.{◌≡◌, ℕ, List, [], ◌∷◌, map, Bool, false, nat_eq, Option, Some, None, slice_get, refl, ap, sym, ◌∙◌, subst, arith, if◌then◌else◌}
-use Rattle.rasta_check.proofs.Prelude.{option_map, bytes_eq, nat_tests, bytes_eq-Decides, length-map, slice_get_past, Side, number_gap, Packet, Parameters, RedundancyPdu}
+use Rattle.rasta_check.proofs.Prelude.{option_map, bytes_eq, nat_tests, bytes_eq-Decides, length-map, slice_get_past, Side, number_gap, Packet, Parameters, RedundancyPdu, Pdu, value_of, copy_of}
 use Rattle.rasta_check.proofs.Prelude.{redundancy_bytes, decode_of, StoredPacket, FirstCopy, Spells, copy_with, is_next_number, packet_fault, Kept, KeptDatagrams, kept_by}
 use Rattle.rasta_check.proofs.Prelude.{position_of_number, position_of_place, Crossing, sent_by, sent_after, IsStore, crossing_by, get_mapped, slice_get_some, map_at}
 use Rattle.std.specs.Prelude.{Ok}
@@ -97,6 +97,19 @@ module _ (p : Parameters) (d : KeptDatagrams) (packets : List StoredPacket) (st 
       let mine = kept_at p d packets st x.side x.position w.0 w.1 in
       let same : mine.pdu.number ≡ number = (let z = sym (ap (option_map (λ (c : FirstCopy). c.pdu.number)) mine.there) ∙ e in cc) in
       (_, mine.pdu, payload_at p d packets place x w.0 g w.1, mine.spelled, (λ i. (x.side, sym same i)))
+
+  one_pdu : (a b : FirstCopy) → Some a ≡ Some b → a.pdu ≡ b.pdu
+  one_pdu a b e = (let z : a ≡ b = cc in ap (λ (c : FirstCopy). c.pdu) z)
+
+  -- the packet that a place holds, and its PDU
+  pub stored_pdu : (place : ℕ) (x : StoredPacket) → slice_get packets place ≡ Some x → (f : ℕ) (pdu : Pdu)
+      → Some (copy_of (f, pdu)) ≡ slice_get (sent_by all x.side) x.position
+      → (a : Packet) × (slice_get all.packets place ≡ Some a) × (x.side ≡ a.side) × Spells p a.side (value_of pdu) a.payload
+  stored_pdu place x g f pdu e =
+      let w = datagram_of place x g in
+      let mine = kept_at p d packets st x.side x.position w.0 w.1 in
+      let same : mine.pdu ≡ value_of pdu = one_pdu _ (copy_of (f, pdu)) (sym mine.there ∙ sym e) in
+      (_, payload_at p d packets place x w.0 g w.1, refl, subst (λ (r : RedundancyPdu). Spells p x.side r w.0.bytes) same mine.spelled)
 
 -- ---- packets of known numbers
 

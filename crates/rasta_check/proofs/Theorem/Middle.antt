@@ -1,14 +1,13 @@
 -- What packets of a run show that begin and end anywhere: the positions that their SNs name, and what was handed up.
-use Rattle.std.proofs.Common.{◌≡◌, ℕ, suc, ◌+◌, ◌<◌, ◌≤◌, ◌%◌, ◌^◌, true, false, List, length, Some, slice_get, take, refl, ap, sym, ◌∙◌, arith, ⊎_elim, subst}
+use Rattle.std.proofs.Common.{◌≡◌, ℕ, suc, ◌+◌, ◌<◌, ◌≤◌, ◌%◌, ◌^◌, true, false, List, length, Some, slice_get, refl, ap, sym, ◌∙◌, arith, ⊎_elim, subst}
 use Rattle.rasta_check.proofs.Prelude.{slice_get_within, Side, Packet, Parameters, Kind, ConnectionRequest, Data, RetransmittedData, is_kind, carries_unit, SafetyPdu, messages_in, Made, EndState, contents, content_of, wrapped, first_sn}
-use Rattle.rasta_check.proofs.Prelude.{FirstCopy, AreParameters, World, station_of, end_of, other_side, Reaches, KeepsRange, Appends, map_at, slice_get_some}
+use Rattle.rasta_check.proofs.Prelude.{FirstCopy, AreParameters, World, station_of, end_of, other_side, Reaches, KeepsRange, map_at, slice_get_some}
 use Rattle.rasta_pdu.specs.Messages.{messages_of}
-use Rattle.rasta_end.specs.State.{ahead_by}
 use Rattle.rasta_check.specs.Capture.SentLists.{IsCarried}
 use Rattle.rasta_check.specs.Model.Settled.{is_settled, ends_burst, data_through, SettlesAt}
 use Rattle.rasta_check.specs.Model.Settled.{plain as at_plain, ended as at_ended, again as at_again}
 use Rattle.rasta_check.specs.Model.Theorem.{HandsUpUnits}
-use Rattle.rasta_check.specs.Model.Middle.{CrossAt, Settles, plain, ended, again, IsUpTo, DataBehind, none_behind, one_behind, OwnLag, fresh, resent, Shows, IsUnit, HasHandedUpBefore}
+use Rattle.rasta_check.specs.Model.Middle.{CrossAt, Settles, plain, ended, again, DataBehind, none_behind, one_behind, OwnLag, fresh, resent, Shows, IsUnit, HasHandedUpBefore}
 use Rattle.rasta_check.proofs.Capture.FaultlessLists.{IsSent, read_once}
 use Rattle.rasta_check.proofs.Model.NamedPositions.{Numbered, SnIs, numbered_once, sn_mod}
 use Rattle.rasta_check.proofs.Model.ConveyedUnits.{values}

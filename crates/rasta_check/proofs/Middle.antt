@@ -1,0 +1,25 @@
+-- What is kept of packets of a connection that begin anywhere, packet by packet, and what is listed of it.
+pub mod Inserted
+pub mod Carried
+pub mod Nearness
+pub mod MessageCounts
+pub mod SightSteps
+pub mod Searches
+pub mod ConfirmationSteps
+pub mod KeptSteps
+pub mod KeptForms
+pub mod SeenSteps
+pub mod Keys
+pub mod Rising
+pub mod Counts
+pub mod Sighted
+pub mod Lags
+pub mod ListSteps
+pub mod Behind
+pub mod Conveyed
+pub mod ProofPlaces
+pub mod Listed
+pub mod Picked
+pub mod ResentSteps
+pub mod Resent
+pub mod ShownLists
