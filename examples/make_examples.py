@@ -14,6 +14,7 @@ Plain Python 3, no other packages. Run it anywhere: the files go beside it,
     wrapped           every counter wraps around
     excerpt           one of three connections between the same ends
     missing_packet    a packet that isn't in the capture
+    from_the_middle   a retransmission, and no opening before it
     foreign_sender    a PDU of a third party
     flipped_bit       a late copy with a changed bit
     repeated_request  a retransmission request that is sent twice
@@ -23,7 +24,7 @@ each as NAME.pcap, NAME.toml and expected/NAME.txt, what `show` prints. Those fr
 have also NAME.cert and expected/NAME.check.txt, what `check` prints; the others expected/NAME.audit.txt, the refusal
 that `audit` prints. station/station.pcap holds three connections, whose parameter files stand beside it, and
 expected/station.audits.txt is what `seatmelon audit station/station.pcap station` prints. expected/excerpt.explain.txt is what `seatmelon explain excerpt.pcap excerpt.toml` prints, where the
-files stand, expected/missing_packet.suppose.txt what `seatmelon explain --suppose 1` prints there of missing_packet, and
+files stand, expected/from_the_middle.explain.txt what it prints there of from_the_middle, expected/missing_packet.suppose.txt what `seatmelon explain --suppose 1` prints there of missing_packet, and
 expected/late_copies.survey.txt what `seatmelon survey` prints. Every run writes the same bytes. All addresses, clocks
 and numbers are made up.
 
@@ -1071,6 +1072,11 @@ MISSING_COMMENT = """\
 
 """
 
+MIDDLE_COMMENT = """\
+# Parameters of from_the_middle.pcap: a connection with safety codes and check codes, without its opening.
+
+"""
+
 FOREIGN_COMMENT = """\
 # Parameters of foreign_sender.pcap: a connection with one redundancy channel.
 
@@ -1107,7 +1113,7 @@ class Element(typing.NamedTuple):
 
 
 def element(name, server_id, row, pdus, begin, story, refusal=None):
-    """An element with this id, at an address of its own."""
+    """An element with this id, at an address of its own. Of one that is refused the packets alone show all its messages."""
     channel = (("10.1.0.1", 5000), (f"10.1.{row}.2", 5000))
     return Element(name, Connection([channel], 16, 4, OWN_START, server_id=server_id), pdus, begin, story, refusal)
 
@@ -1148,6 +1154,9 @@ def audit_line(each, records):
         record = own[each.refusal.record - 1]
         time = time_text(records[record - 1][0])
         told = f"refused by {each.refusal.number} {each.refusal.name}, record {record}, {time} UTC, {each.refusal.end}"
+        client, server = (sent_by(side, each.pdus) for side in ("client", "server"))
+        shown = f"{client} of {client} captured messages surely taken"
+        told += f"; client to server: {shown}; server to client: {server} of {server}, whatever was missed"
     else:
         client = f"{len(each.story.server_took)} of {sent_by('client', each.pdus)} messages surely taken"
         server = f"{len(each.story.client_took)} of {sent_by('server', each.pdus)}"
@@ -1323,11 +1332,12 @@ look next at:
   behind it from a quiet point, of which seatmelon draft CAPTURE N --after RECORD PARAMS proposes
   some
 
+{shown}
 explained with 1 supposed PDU, as a hypothesis: if the tap missed what follows, the rules can explain all packets
   from the client, redundancy number 11, SN 104, just before record 7, 2026-01-01 00:00:00.030000 UTC, channel 1
     6213, retransmission response: CS 501, TS 1020, CTS 9020
-client to server: 5 of 5 captured messages surely taken
-server to client: 0 of 0 captured messages surely taken
+client to server: 5 of 5 captured messages surely taken under this filling, and under this alone
+server to client: 0 of 0 captured messages surely taken under this filling, and under this alone
 
 What the supposition says:
   Under each of these fillings some run of two ends that keep the rules, over a network that loses,
@@ -1363,22 +1373,100 @@ Times of capture, which no verdict reads:
   longest silence of the client: 10.000000 ms, between records 1 and 3
   longest silence of the server: 20.000000 ms, between records 2 and 6
 
+Captured messages, whatever came before and was missed (times are UTC; those without a date are of 2026-01-01):
+{messages}
 Messages (times are UTC; those without a date are of 2026-01-01):
-client to server 0: record 4, 00:00:00.015000; proof: record 9, 00:00:00.040000; hex ab01
-client to server 1: record 4, 00:00:00.015000; proof: record 9, 00:00:00.040000; empty
-client to server 2: record 5, 2026-01-01 00:00:00.020000 UTC, channel 1
-  proof: record 9, 2026-01-01 00:00:00.040000 UTC, channel 1
-  hex, the first 32 of 100: 000102030405060708090a0b0c0d0e0f101112131415161718191a1b1c1d1e1f
-  text, the first 32 of 100: \\x00\\x01\\x02\\x03\\x04\\x05\\x06\\x07\\x08\\x09\\x0a\\x0b\\x0c\\x0d\\x0e\\x0f\\x10\\x11\\x12\\x13\\x14\\x15\\x16\\x17\\x18\\x19\\x1a\\x1b\\x1c\\x1d\\x1e\\x1f
-client to server 3: record 10, 00:00:00.045000; proof: record 11, 00:00:00.050000; empty
-client to server 4: record 10, 00:00:00.045000; proof: record 11, 00:00:00.050000; hex 02
+{messages}"""
+
+FROM_THE_MIDDLE = """\
+refused by 60 NotFound:
+  no two ends that keep the rules send packets that begin with those up to this one
+
+the client's PDU in record 1, 2026-01-01 00:00:00.000000 UTC, channel 1
+  type: 6240, data
+  redundancy number: 9
+  SN: 102
+  CS: 500
+  TS: 1015
+  CTS: 9000
+  message: hex ab01, text \\xab\\x01
+  message: empty
+the rule that refuses it, found by a walk beside the verdict and no part of it:
+  CS 500 is the SN of no PDU of the server in the window
+
+may be the cause:
+  the capture begins in the middle of the connection, and the parameters record no quiet point;
+  or the opening is there, but outside the window or on a channel that isn't recorded
+look next at:
+  the quiet points that seatmelon draft proposes, one of which the engineering data or a log
+  has to confirm; or the window and the channels in the parameters
+
+{shown}
+What was judged:
+{capture}{parameters}  certificate: none was given, so one is built
+  program: seatmelon 0.1.0, proved with Rattle, logic dac8208d650f15bf
+  records read: 9
+  packets of the connection: 9
+    on channel 1, 10.0.0.1:5000 - 10.0.0.2:5000: from the client 6, from the server 3
+  records passed over: 0
+  ids: client 96, server 97
+  lengths: safety code 16, check code 4
+  start words: 0f1e2d3c4b5a69788796a5b4c3d2e1f0
+  limits: N_sendmax 20, T_max 1800, slack 0
+  quiet point: none
+Times of capture, which no verdict reads:
+  longest silence of the client: 10.000000 ms, between records 2 and 4
+  longest silence of the server: 20.000000 ms, between records 3 and 7
+
+Captured messages, whatever came before and was missed (times are UTC; those without a date are of 2026-01-01):
+{messages}"""
+
+# What the packets alone show of the retransmission, with or without its opening.
+SHOWN = """\
+client to server: 5 of 5 captured messages surely taken, whatever came before and whatever the tap missed
+server to client: 0 of 0 captured messages surely taken, whatever came before and whatever the tap missed
+
+What these counts say:
+  In every run of two ends that keep the rules in which these packets cross the tap, whatever else
+  crosses before, between and behind them, the far end handed up each message that is listed as
+  surely taken, once and in order, before the packet that is its proof crossed.
+What they don't say:
+  that there is such a run.
+  A message that is listed as not shown may have been taken all the same.
+What they rest on:
+  These packets crossed the tap, and all are of one connection.
+  Nobody else sent a packet with a valid safety code between the recorded addresses.
+  The parameters are right.
+  Both ends kept the rules, and neither made more than 2147483647 PDUs in this connection.
+What they don't rest on:
+  where in the connection the capture begins, and that the tap missed nothing.
 """
 
 
-def write_supposed_text():
-    """What `explain --suppose 1` prints of the missing packet and its parameters, which have been written."""
-    text = SUPPOSED.format(capture=sum_lines("capture", "missing_packet.pcap"), parameters=sum_lines("parameters", "missing_packet.toml"))
-    (HERE / "expected" / "missing_packet.suppose.txt").write_bytes(text.encode())
+def message_lines(data, proof):
+    """The lines of the client's five messages, whose three data and their proofs stand in these records."""
+    (one, two, three), (one_proof, two_proof, three_proof) = data, proof
+    time = lambda record: f"00:00:00.{5 * (record - 1):03}000"
+    short = lambda number, record, shown, told: (
+        f"client to server {number}: record {record}, {time(record)}; proof: record {shown}, {time(shown)}; {told}\n")  # fmt: skip
+    front = SECOND[0][:32]
+    return "".join([
+        short(0, one, one_proof, "hex ab01"),
+        short(1, one, one_proof, "empty"),
+        f"client to server 2: record {two}, 2026-01-01 {time(two)} UTC, channel 1\n",
+        f"  proof: record {two_proof}, 2026-01-01 {time(two_proof)} UTC, channel 1\n",
+        f"  hex, the first 32 of 100: {front.hex()}\n",
+        "  text, the first 32 of 100: " + "".join(f"\\x{byte:02x}" for byte in front) + "\n",
+        short(3, three, three_proof, "empty"),
+        short(4, three, three_proof, "hex 02"),
+    ])  # fmt: skip
+
+
+def write_text_of(name, kind, text, messages):
+    """What a form of `explain` prints of a capture and its parameters, which have been written."""
+    sums = {"capture": sum_lines("capture", f"{name}.pcap"), "parameters": sum_lines("parameters", f"{name}.toml")}
+    told = text.format(shown=SHOWN, messages=messages, **sums)
+    (HERE / "expected" / f"{name}.{kind}.txt").write_bytes(told.encode())
 
 
 def write(name, connection, made, comment, refusal=None):
@@ -1434,7 +1522,10 @@ if __name__ == "__main__":
     write_excerpt_text()
     write("missing_packet", coded, in_turn(coded, MISSING_PACKET), MISSING_COMMENT)
     write_refusal("missing_packet", MISSING_REFUSAL)
-    write_supposed_text()
+    write_text_of("missing_packet", "suppose", SUPPOSED, message_lines((4, 5, 10), (9, 9, 11)))
+    write("from_the_middle", coded, in_turn(coded, RETRANSMISSION[3:]), MIDDLE_COMMENT)
+    write_refusal("from_the_middle", NO_OPENING)
+    write_text_of("from_the_middle", "explain", FROM_THE_MIDDLE, message_lines((1, 2, 8), (7, 7, 9)))
     write("foreign_sender", one, foreign_sender(one), FOREIGN_COMMENT, FOREIGN_REFUSAL)
     write_refusal("foreign_sender", FOREIGN_REFUSAL)
     both_coded = Connection(CHANNELS, 16, 4, OWN_START)

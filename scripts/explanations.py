@@ -218,6 +218,10 @@ def same_told(text, data):
             fault = connection["fault"]
             told += f"refused by {fault['number']} {fault['name']}, record {connection['record']}, {connection['time']}"
             told += f", {connection['end']}"
+            if connection["from_the_middle"]:
+                client, server = (connection["from_the_middle"][side] for side in ("client", "server"))
+                told += f"; client to server: {client['surely_taken']} of {client['captured']} captured messages surely taken"
+                told += f"; server to client: {server['surely_taken']} of {server['captured']}, whatever was missed"
         else:
             told += connection["verdict"].replace("_", " ")
         right = right and line == told

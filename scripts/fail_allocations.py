@@ -38,8 +38,8 @@ ROWS = [
     "copies on two channels",
     "lost resend and second request",
 ]
-# Samples that are explained: whole, from a quiet point, and by which no two ends can have sent their packets.
-EXPLAINED = ["retransmission", "quiet_start", "repeated_request", "flipped_bit"]
+# Samples that are explained: whole, from a quiet point, by which no two ends can have sent their packets, and from the middle.
+EXPLAINED = ["retransmission", "quiet_start", "repeated_request", "flipped_bit", "from_the_middle"]
 # Samples whose records make a capture of three connections.
 THREE = ["retransmission", "wrapped", "both_ask"]
 # Crate, test, and the first of its allocations that may fail; those before it belong to the test itself.

@@ -1,6 +1,6 @@
 -- What an account tells of what was read.
 use Rattle.std.specs.Prelude.{◌≡◌, ◌↔◌, ◌<◌, ℕ, List, [], ◌∷◌, length, take, filter, nat_lt, Option, None, Some, IfSome}
-use Rattle.std.specs.Prelude.{IsSome, option_map, unwrap_or}
+use Rattle.std.specs.Prelude.{IsSome, is_some, option_map, unwrap_or}
 use Rattle.sha2.specs.Sha256.{sha256}
 use Rattle.rasta_pcap.specs.declared.fault.Side.TheVariants.{Client, Server}
 use Rattle.rasta_pdu.specs.Params.{Parameters}
@@ -16,6 +16,7 @@ use Rattle.seatmelon_reading.specs.Window as windows
 use Rattle.seatmelon_reading.specs.Window.{IsBounded}
 use Rattle.seatmelon_account.specs.Hypotheses.{IsHypothesis}
 use Rattle.seatmelon_account.specs.Messages.{IsDirection}
+use Rattle.seatmelon_account.specs.Middle.{IsFromMiddle, tells_middle}
 use Rattle.seatmelon_account.specs.Offers.{AreOffers}
 use Rattle.seatmelon_account.specs.Refusals.{TellsPlace, TellsRecord}
 use Rattle.seatmelon_account.specs.Starts.{start_in}
@@ -91,4 +92,6 @@ pub record IsAccount (i : Inputs) (r : Reading) (a : Account) : Type 0 where
   pub silences : AreSilences r.notes.packets.items a.silences
   pub offers : AreOffers i.params.now.n_sendmax r.store a.offers
   pub verdict : IsToldOf i.params.now r.store r.notes.before r.refusal (text_in i) a.verdict
+  pub middle : IfSome a.middle (IsFromMiddle r)
+  pub told_middle : is_some a.middle ≡ tells_middle r a.verdict
   pub hypothesis : IfSome a.hypothesis (IsHypothesis i.params.now r.notes (most_in i))

@@ -6,6 +6,7 @@ pub mod Gaps
 pub mod Hypotheses
 pub mod Layouts
 pub mod Messages
+pub mod Middle
 pub mod Offers
 pub mod Refusals
 pub mod Rules

@@ -16,6 +16,7 @@ use crate::crossed::list_of;
 use crate::explained::{Explained, start_of};
 use crate::hypothesis::{Hypothesis, hypothesis_of};
 use crate::messages::direction_of;
+use crate::middle::{FromMiddle, middle_of};
 use crate::offers::{Offers, offers_in};
 use crate::refusal::{Refusal, capture_refusal, scripts_refusal, text_refusal, unfound};
 use rasta_check::Store;
@@ -132,6 +133,10 @@ pub struct Account<'a> {
     pub offers: Offers,
 
     pub verdict: Verdict<'a>,
+
+    /// What was surely taken by the packets of the window alone, where numbers have a gap, no run explains them, or
+    /// neither opening nor quiet point is there.
+    pub middle: Option<FromMiddle<'a>>,
 
     /// What is supposed of a capture that is refused at a gap, where that was asked for.
     pub hypothesis: Option<Hypothesis<'a>>,
@@ -302,6 +307,7 @@ pub fn account_of<'a>(
     let Inputs { names, texts, .. } = *inputs;
     let notes = &reading.notes;
     let name = names.certificate.unwrap_or("-");
+    let verdict = verdict_on(alloc, inputs, reading)?;
     Ok(Account {
         capture: File {
             name: names.capture,
@@ -324,7 +330,8 @@ pub fn account_of<'a>(
         untimed: count_untimed(notes.packets.as_slice()),
         silences: silences_in(notes.packets.as_slice()),
         offers: offers_in(inputs.params, &reading.store),
-        verdict: verdict_on(alloc, inputs, reading)?,
+        middle: middle_of(alloc, reading, &verdict)?,
+        verdict,
         hypothesis: hypothesis_in(alloc, inputs.params, reading, supposition)?,
     })
 }

@@ -1,15 +1,17 @@
 -- What becomes of a connection, by how it stands.
-use Rattle.std.proofs.Common.{◌≡◌, ◌≢◌, ◌∙◌, ℕ, suc, List, [], ◌∷◌, ◌++◌, length, map, None, Ok, Err, ap, refl, sym, subst, arith, Result}
+use Rattle.std.proofs.Common.{◌≡◌, ◌≢◌, ◌∙◌, ℕ, suc, List, [], ◌∷◌, ◌++◌, length, map, Option, None, Ok, Err, ap, refl, sym, subst, arith, Result}
 use Rattle.std.specs.List.{AllZip}
 use Rattle.rasta_pcap.specs.declared.fault.Fault.{Fault}
 use Rattle.rasta_pcap.specs.Captured.{captured_in}
 use Rattle.rasta_pcap.specs.Fault.{fault_at, no_memory, not_found}
+use Rattle.rasta_udp.specs.Frame.{Packet}
 use Rattle.rasta_pdu.specs.Params.{Parameters}
 use Rattle.rasta_cert.specs.Certificate.{Scripts}
 use Rattle.rasta_build.proofs.Answering.{answer_fault, answer_fits}
 use Rattle.rasta_check.specs.Capture.Building.{crossed_in}
 use Rattle.rasta_check.specs.Capture.Crossing.{AreSentLists, Crossing, IsCrossing}
 use Rattle.rasta_check.specs.Capture.Reading.{crossing_of}
+use Rattle.rasta_check.specs.Middle.Seen.{IsSeen}
 use Rattle.rasta_check.specs.Verdict.Report.{BothFit, IsScriptVerdict, both_fit, report_of}
 use Rattle.rasta_check.specs.Verdict.Report as reports
 use Rattle.rasta_check.proofs.Script.Fits.{one_answer}
@@ -17,10 +19,13 @@ use Rattle.rasta_verdict.specs.declared.verdict.Explanation.{Explanation}
 use Rattle.rasta_verdict.specs.declared.verdict.Verdict.TheVariants as verdicts
 use Rattle.rasta_verdict.specs.Given.{IsRefusedBy, IsUnscripted, IsVerdictOn, refused, unscripted}
 use Rattle.rasta_verdict.proofs.Proposals.{found_none}
-use Rattle.seatmelon_audit.specs.Answers.{AreCounts, IsAnswer, IsAnswerOf, IsAnswerOn, IsExplained, IsUnexplained, RefusesBy, capture_refused, packets_in, subject_holding, unexplained}
+use Rattle.seatmelon_middle.specs.Packets.{opens_first}
+use Rattle.seatmelon_middle.specs.declared.counts.ShownCounts.{ShownCounts}
+use Rattle.seatmelon_audit.specs.Answers.{AreCounts, IsAnswer, IsAnswerOf, IsAnswerOn, IsExplained, IsRefusal, IsTold, IsUnexplained, RefusesBy, capture_refused, packets_in, subject_holding, unexplained}
 use Rattle.seatmelon_audit.specs.Files.{AreThrough}
 use Rattle.seatmelon_audit.specs.Lines.{params_of}
 use Rattle.seatmelon_audit.specs.Records.{IsStanding}
+use Rattle.seatmelon_audit.specs.Shown.{IsShowing, IsShownOf, packets_held}
 use Rattle.seatmelon_audit.specs.declared.answer.Answer.{Answer}
 use Rattle.seatmelon_audit.specs.declared.answer.Answer.TheVariants as answers
 use Rattle.seatmelon_audit.specs.declared.answer.Explained.{Explained}
@@ -29,6 +34,7 @@ use Rattle.seatmelon_audit.specs.declared.line.Refusal.{Refusal}
 use Rattle.seatmelon_audit.specs.declared.line.Stamp.{Stamp}
 use Rattle.seatmelon_audit.specs.declared.line.Standing.{Standing}
 use Rattle.seatmelon_audit.specs.declared.line.Standing.TheVariants as standings
+use Rattle.seatmelon_audit.proofs.Showing.{crossing_held}
 
 -- ---- the verdict on what crossed
 
@@ -59,10 +65,13 @@ unexplained_by k fault told h known same (unscripted why) = subst (IsUnexplained
 unexplained_by k fault told h known same (refused scripts proposed verdict) =
     absurd (never_refused k scripts fault (answer_fits k.params (length k.packets) k.client k.server (Ok scripts) (lists_of k h) proposed).1 verdict)
 
-pub refused_on : (k : Crossing) (packets : List Stamp) (fault : Fault) (a : Answer) → IsCrossing k → IsRefusedBy k None fault → RefusesBy fault packets a → IsAnswerOn k packets a
+pub refused_on : (k : Crossing) (packets : List Stamp) (fault : Fault) (a : Answer) → IsCrossing k → IsRefusedBy k None fault → RefusesBy fault k packets a → IsAnswerOn k packets a
 refused_on k packets fault answers.NoPackets h why r = absurd r
-refused_on k packets fault (answers.Refused refusal) h why r =
-    (unexplained_by k fault refusal.fault h r.0 r.1 why, r.2 ∙ ap (λ (f : Fault). subject_holding packets f.place) (sym r.1))
+refused_on k packets fault (answers.Refused refusal shown) h why r = (
+  unexplained_by k fault refusal.fault h r.0 r.1 why,
+  r.2 ∙ ap (λ (f : Fault). subject_holding packets f.place) (sym r.1),
+  subst (λ (f : Fault). IsShownOf k.params k.packets f shown) (sym r.1) r.3,
+)
 refused_on k packets fault (answers.Explained e) h why r = absurd r
 refused_on k packets fault answers.OutOfMemory h why r = tt
 
@@ -78,23 +87,52 @@ explained_on k e counts h judged counted = record {
 
 -- ---- a connection
 
-standing_answer : (p : Parameters) (file : List ℕ) (k : Crossing) (packets : List Stamp) (a : Answer) → crossing_of p file ≡ Ok k → packets ≡ packets_in p file → IsAnswerOn k packets a
-    → IsAnswer p file a
-standing_answer p file k packets answers.NoPackets crossed held h = (k, crossed, h)
-standing_answer p file k packets (answers.Refused refusal) crossed held h =
-    unexplained k crossed h.0 (h.1 ∙ ap (λ l. subject_holding l refusal.fault.place) held)
-standing_answer p file k packets (answers.Explained e) crossed held h = (k, crossed, h)
-standing_answer p file k packets answers.OutOfMemory crossed held h = tt
+-- what is told of these packets is told of those
+told_of_same : (p q : Parameters) (packets held : List Packet) (fault : Fault) (shown : Option ShownCounts) → q ≡ p → packets ≡ held → IsShownOf q packets fault shown → IsShownOf p held fault shown
+told_of_same p q packets held fault shown same are h =
+    subst (λ (x : Parameters). IsShownOf x held fault shown) same (subst (λ l. IsShownOf q l fault shown) are h)
 
-pub read_answer : (l : Line) (a : Answer) → l.standing ≡ standings.Reading → IsAnswerOn (crossed_in l.builder) l.packets.items a → IsAnswerOf l a
+module _ (p : Parameters) (file : List ℕ) where
+  abbrev held : List Packet
+  held = packets_held p (captured_in file)
+
+  standing_answer : (k : Crossing) (packets : List Stamp) (a : Answer) → crossing_of p file ≡ Ok k → packets ≡ packets_in p file → k.params ≡ p → k.packets ≡ held → IsAnswerOn k packets a
+      → IsAnswer p file a
+  standing_answer k packets answers.NoPackets crossed noted same are h = (k, crossed, h)
+  standing_answer k packets (answers.Refused refusal shown) crossed noted same are h = (
+    unexplained k crossed h.0 (h.1 ∙ ap (λ l. subject_holding l refusal.fault.place) noted),
+    told_of_same p k.params k.packets held refusal.fault shown same are h.2,
+  )
+  standing_answer k packets (answers.Explained e) crossed noted same are h = (k, crossed, h)
+  standing_answer k packets answers.OutOfMemory crossed noted same are h = tt
+
+  told_answer : (refusal : Refusal) (a : Answer) → IsRefusal p file refusal → IsTold refusal p held a → IsAnswer p file a
+  told_answer refusal answers.NoPackets is h = absurd h
+  told_answer refusal (answers.Refused told shown) is h =
+      (subst (IsRefusal p file) (sym h.0) is, subst (λ (r : Refusal). IsShownOf p held r.fault shown) (sym h.0) h.1)
+  told_answer refusal (answers.Explained e) is h = absurd h
+  told_answer refusal answers.OutOfMemory is h = tt
+
+abbrev StandsBy : List ℕ → Line → Standing → Type 0
+StandsBy file l s = IsStanding s (crossing_of l.params file) (captured_in file) l.params (crossed_in l.builder) l.packets.items
+
+pub read_answer : (l : Line) (a : Answer) → l.standing ≡ standings.Reading
+    → (l.opens ≡ opens_first (crossed_in l.builder).params (crossed_in l.builder).packets → IsAnswerOn (crossed_in l.builder) l.packets.items a) → IsAnswerOf l a
 read_answer l a reading h file stands =
-    let s = subst (λ (t : Standing). IsStanding t (crossing_of l.params file) (captured_in file) l.params (crossed_in l.builder) l.packets.items) reading stands in
-    standing_answer l.params file (crossed_in l.builder) l.packets.items a s.0 s.1 h
+    let k = crossed_in l.builder in
+    let s = subst (StandsBy file l) reading stands.standing in
+    let are = crossing_held l file k s.0 in
+    let opens : l.opens ≡ opens_first k.params k.packets =
+    stands.opens ∙ ap (opens_first l.params) (sym are) ∙ ap (λ (x : Parameters). opens_first x k.packets) (sym l.recorded) in
+    standing_answer l.params file k l.packets.items a s.0 s.1 l.recorded are (h opens)
 
-pub refused_answer : (l : Line) (refusal : Refusal) → l.standing ≡ standings.Refused refusal → IsAnswerOf l (answers.Refused refusal)
-refused_answer l refusal is file stands =
-    let s = subst (λ (t : Standing). IsStanding t (crossing_of l.params file) (captured_in file) l.params (crossed_in l.builder) l.packets.items) is stands in
-    capture_refused s.0 s.1
+pub refused_answer : (l : Line) (refusal : Refusal) (a : Answer) → l.standing ≡ standings.Refused refusal
+    → ((packets : List Packet) → IsSeen l.params packets l.shown → l.opens ≡ opens_first l.params packets → IsTold refusal l.params packets a) → IsAnswerOf l a
+refused_answer l refusal a is h file stands =
+    let s = subst (StandsBy file l) is stands.standing in
+    let packets = packets_held l.params (captured_in file) in
+    let seen = subst (λ (t : Standing). IsShowing t l.params packets l.shown) is stands.shown in
+    told_answer l.params file refusal a (capture_refused s.0 s.1) (h packets seen stands.opens)
 
 -- ---- all connections
 

@@ -43,7 +43,7 @@ refusal_decides p file refusal (unexplained k crossed why subject) = λ j again.
 
 pub audited_as : (p : Parameters) (file : List ℕ) (answer : Answer) → IsAnswer p file answer → IsAuditedAs p file answer
 audited_as p file answers.NoPackets h = (refused_line (fault_at not_found 0), 1, proposed.none_found h.0 0 h.1)
-audited_as p file (answers.Refused refusal) h = (refusal_as p file refusal h, refusal_decides p file refusal h)
+audited_as p file (answers.Refused refusal shown) h = (refusal_as p file refusal h.0, refusal_decides p file refusal h.0)
 audited_as p file (answers.Explained e) h =
     let why = h.2 in (explained_text h.0 why.scripts why.report, proposed.explained h.0 why.scripts why.report h.1 why.certificate why.verdict)
 audited_as p file answers.OutOfMemory h = tt

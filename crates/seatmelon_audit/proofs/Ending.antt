@@ -1,12 +1,9 @@
 -- All connections, while they take in the fault that ended the reading.
-use Rattle.std.proofs.Common.{◌≡◌, ◌∙◌, ⊎_elim, ℕ, ◌+◌, ◌<◌, ◌≤◌, List, length, get_or, Some, refl, sym, subst, arith}
+use Rattle.std.proofs.Common.{◌≡◌, ◌∙◌, ⊎_elim, ℕ, ◌+◌, ◌<◌, ◌≤◌, List, length, get_or, refl, sym, subst, arith}
 use Rattle.rasta_pcap.specs.declared.fault.Fault.{Fault}
-use Rattle.rasta_pdu.specs.Params.{Parameters}
-use Rattle.rasta_check.specs.Capture.Building.{crossed_in}
-use Rattle.seatmelon_audit.specs.Ends.{AllEnd, AreEndedBelow, EndsBy, IsEndAt, crossed_to_end}
-use Rattle.seatmelon_audit.specs.Records.{IsStanding}
+use Rattle.seatmelon_audit.specs.Ends.{AllEnd, AreEndedBelow, EndsBy, IsEndAt}
 use Rattle.seatmelon_audit.specs.declared.line.Line.{Line}
-use Rattle.seatmelon_audit.proofs.Places.{at_changed, elsewhere, params_changed, same_at, same_count, same_or_other}
+use Rattle.seatmelon_audit.proofs.Places.{at_changed, elsewhere, params_changed, same_count, same_or_other}
 
 pub none_ended : (lines : List Line) (fault : Fault) → AreEndedBelow 0 lines lines fault
 none_ended lines fault = record {
@@ -42,6 +39,4 @@ module _ (place : ℕ) (first old new : List Line) (fault : Fault) (before : Are
 pub all_ended : (place : ℕ) (old new : List Line) (fault : Fault) → length old ≤ place → AreEndedBelow place old new fault → AllEnd old new fault
 all_ended place old new fault through below records after h i d inside =
     let within : i < length old = (let size = same_count new old below.params in omega (arith, inside, size)) in
-    let line = get_or new i d in
-    subst (λ (p : Parameters). IsStanding line.standing (crossed_to_end p records (Some fault)) records p (crossed_in line.builder) line.packets.items)
-    (sym (same_at new old below.params i d inside within)) (below.ended i d (omega (arith, within, through)) within records after (h i d within))
+    below.ended i d (omega (arith, within, through)) within records after (h i d within)

@@ -1,22 +1,27 @@
 -- A connection where the reading of a file ends.
-use Rattle.std.proofs.Common.{◌≡◌, ◌∙◌, inl, inr, suc, ◌<◌, ◌≤◌, List, [], ◌∷◌, length, cond, Bool, true, false, nat_eq, nat_lt, Option, None, Some, Result, ap, refl, sym, subst, arith}
+use Rattle.std.proofs.Common.{◌≡◌, ◌∙◌, ◌⊎◌, inl, inr, suc, ◌<◌, ◌≤◌, List, [], ◌∷◌, length, cond, Bool, true, false, nat_eq, nat_lt, Option, None, Some, Result, ap, refl, sym, subst, arith}
 use Rattle.std.proofs.lemmas.Bool.Decides.{nat_tests}
 use Rattle.std.specs.Option.{option_map}
 use Rattle.std.specs.Prelude.{slice_get}
 use Rattle.rasta_pcap.specs.declared.fault.Fault.{Fault}
 use Rattle.rasta_pcap.specs.Captured.{Captured}
+use Rattle.rasta_udp.specs.Frame.{Packet}
 use Rattle.rasta_pdu.specs.Params.{Parameters}
 use Rattle.rasta_check.specs.Capture.Building.{crossed_in}
 use Rattle.rasta_check.specs.Capture.Crossing.{Crossing}
 use Rattle.rasta_check.specs.Capture.Reading.{then_crossing, at_end}
 use Rattle.rasta_check.specs.declared.store_builder.StoreBuilder.{StoreBuilder}
+use Rattle.seatmelon_middle.specs.Packets.{opens_first}
 use Rattle.seatmelon_audit.specs.Ends.{EndsBy, IsFaultAfter, crossed_to_end, fault_behind}
 use Rattle.seatmelon_audit.specs.Records.{IsStanding, crossed_by, subject_at, subject_behind, subject_of}
+use Rattle.seatmelon_audit.specs.Shown.{IsShowing, packets_held}
 use Rattle.seatmelon_audit.specs.declared.line.Line.{Line}
+use Rattle.seatmelon_audit.specs.declared.line.Refusal.{Refusal}
 use Rattle.seatmelon_audit.specs.declared.line.Stamp.{Stamp}
 use Rattle.seatmelon_audit.specs.declared.line.Standing.{Standing}
 use Rattle.seatmelon_audit.specs.declared.line.Standing.TheVariants.{OutOfMemory, Reading, Refused}
 use Rattle.seatmelon_audit.specs.declared.line.Subject.{Subject}
+use Rattle.seatmelon_audit.proofs.Showing.{crossed_held}
 
 abbrev Outcome : Type 0
 Outcome = Result Crossing Fault
@@ -66,14 +71,32 @@ ends_late : (l : Line) → 0 < l.params.last_record
 ends_late l = (let from = l.window.from_one in let order = l.window.in_order in omega (arith, from, order))
 
 pub line_stays : (l : Line) (fault : Fault) → (l.standing ≡ Reading → l.params.last_record < fault.place) → EndsBy l l fault
-line_stays l fault behind records after h = stays l.params records fault after (ends_late l) l.standing (crossed_in l.builder) l.packets.items behind h.standing
+line_stays l fault behind records after h = record {
+  standing = stays l.params records fault after (ends_late l) l.standing (crossed_in l.builder) l.packets.items behind h.stands.standing;
+  opens = h.opens;
+  shown = h.stands.shown;
+}
+
+-- refused, or short of memory
+either : (Holds : Standing → Type 0) (s : Standing) (refusal : Refusal) → (s ≡ Refused refusal) ⊎ (s ≡ OutOfMemory) → Holds (Refused refusal) → Holds OutOfMemory → Holds s
+either Holds s refusal (inl is) refused short = subst Holds (sym is) refused
+either Holds s refusal (inr is) refused short = subst Holds (sym is) short
 
 pub line_refused : (old new : Line) (fault : Fault) (subject : Option Subject) → old.standing ≡ Reading → fault.place ≤ old.params.last_record → subject ≡ subject_behind fault.place
-    → new.builder ≡ old.builder → new.packets.items ≡ old.packets.items → new.standing ≡ Refused (record { fault = fault; subject = subject }) → EndsBy old new fault
-line_refused old new fault subject reading inside names builder packets refused records after h =
+    → new.params ≡ old.params → new.builder ≡ old.builder → new.packets.items ≡ old.packets.items → new.opens ≡ old.opens
+    → (new.standing ≡ Refused (record { fault = fault; subject = subject })) ⊎ (new.standing ≡ OutOfMemory)
+    → IsShowing new.standing old.params (crossed_in old.builder).packets new.shown → EndsBy old new fault
+line_refused old new fault subject reading inside names params builder packets opens refused shown records after h =
     let p = old.params in
-    let before = subst (λ (s : Standing). IsStanding s (crossed_by p records) records p (crossed_in old.builder) old.packets.items) reading h.standing in
-    subst (λ (s : Standing). IsStanding s (crossed_to_end p records (Some fault)) records p (crossed_in new.builder) new.packets.items) (sym refused)
-    (subst (λ (l : List Stamp). IsStanding (Refused (record { fault = fault; subject = subject })) (crossed_to_end p records (Some fault)) records p (crossed_in new.builder) l) (sym packets)
-    (subst (λ (b : StoreBuilder). IsStanding (Refused (record { fault = fault; subject = subject })) (crossed_to_end p records (Some fault)) records p (crossed_in b) old.packets.items) (sym builder)
-    (refuses p records fault after (ends_late old) subject (crossed_in old.builder) old.packets.items inside names before)))
+    let before = subst (λ (s : Standing). IsStanding s (crossed_by p records) records p (crossed_in old.builder) old.packets.items) reading h.stands.standing in record {
+      standing = subst (λ (x : Parameters). IsStanding new.standing (crossed_to_end x records (Some fault)) records x (crossed_in new.builder) new.packets.items) (sym params)
+          (either (λ (s : Standing). IsStanding s (crossed_to_end p records (Some fault)) records p (crossed_in new.builder) new.packets.items) new.standing
+          (record { fault = fault; subject = subject }) refused
+          (subst (λ (l : List Stamp). IsStanding (Refused (record { fault = fault; subject = subject })) (crossed_to_end p records (Some fault)) records p (crossed_in new.builder) l) (sym packets)
+          (subst (λ (b : StoreBuilder). IsStanding (Refused (record { fault = fault; subject = subject })) (crossed_to_end p records (Some fault)) records p (crossed_in b) old.packets.items) (sym builder)
+          (refuses p records fault after (ends_late old) subject (crossed_in old.builder) old.packets.items inside names before)))
+          tt);
+      opens = opens ∙ h.opens ∙ ap (λ (x : Parameters). opens_first x (packets_held x records)) (sym params);
+      shown = subst (λ (x : Parameters). IsShowing new.standing x (packets_held x records) new.shown) (sym params)
+          (subst (λ (held : List Packet). IsShowing new.standing p held new.shown) (crossed_held p records (crossed_in old.builder) before.0) shown);
+    }

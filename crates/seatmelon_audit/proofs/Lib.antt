@@ -10,6 +10,7 @@ mod Knowing
 mod OnWay
 mod Places
 mod Readings
+mod Showing
 mod Standings
 mod Steps
 mod Through

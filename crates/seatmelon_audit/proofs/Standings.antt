@@ -5,24 +5,29 @@ use Rattle.std.proofs.lemmas.Bool.Decides.{nat_tests}
 use Rattle.std.proofs.lemmas.List.{length_push, map-append, take-append-le, take_all}
 use Rattle.std.proofs.lemmas.List.Elements.{filter-append}
 use Rattle.std.specs.Option.{option_map}
-use Rattle.std.specs.Prelude.{is_some, slice_get}
+use Rattle.std.specs.Prelude.{filter_map, is_some, option_to_list, slice_get}
 use Rattle.rasta_pcap.specs.declared.fault.Fault.{Fault}
 use Rattle.rasta_pcap.specs.declared.time.CaptureTime.{CaptureTime}
 use Rattle.rasta_pcap.specs.Capture.{Numbered}
 use Rattle.rasta_pcap.specs.Captured.{Captured, numbered}
+use Rattle.rasta_udp.specs.Frame.{Packet}
 use Rattle.rasta_pdu.specs.Params.{Parameters}
 use Rattle.rasta_check.specs.Capture.Crossing.{Crossing, nothing_crossed}
 use Rattle.rasta_check.specs.Capture.Reading.{after_record, after_records, then_crossing, packet_at}
 use Rattle.rasta_check.proofs.Lists.{get_next, slice_get_some}
+use Rattle.rasta_check.specs.declared.shown.Shown.{Shown}
 use Rattle.rasta_check.specs.declared.store_builder.StoreBuilder.{StoreBuilder}
+use Rattle.seatmelon_middle.specs.Packets.{opens_first}
 use Rattle.seatmelon_reading.proofs.Told.{record_place}
 use Rattle.rasta_check.specs.Capture.Building.{crossed_in}
-use Rattle.seatmelon_audit.specs.Lines.{IsJudged, IsLine, IsWithin, TakesIn}
+use Rattle.seatmelon_audit.specs.Lines.{IsJudged, IsLine, IsWithin, Passes, Stands, TakesIn}
 use Rattle.seatmelon_audit.specs.declared.line.Line.{Line}
 use Rattle.seatmelon_audit.specs.Records.{IsJudgedSo, IsStanding, crossed_by, holding, holds_packet, stamp_of, stamps_at, subject_at, subject_of}
+use Rattle.seatmelon_audit.specs.Shown.{IsShowing, opens_by, opens_with, packets_held}
 use Rattle.seatmelon_audit.specs.declared.line.Stamp.{Stamp}
 use Rattle.seatmelon_audit.specs.declared.line.Standing.{Standing}
 use Rattle.seatmelon_audit.specs.declared.line.Standing.TheVariants.{OutOfMemory, Reading, Refused}
+use Rattle.seatmelon_audit.proofs.Showing.{crossed_held, held_inside, held_none, opens_more}
 
 abbrev Outcome : Type 0
 Outcome = Result Crossing Fault
@@ -158,72 +163,147 @@ module _ (p : Parameters) (records : List Captured) (q : Captured) (next : q.num
       (refused_by refusal.fault h.0 (by_test (leb q.number p.last_record) refl), h.1 ∙ sym (subject_kept refusal.fault.place within))
   stopped_standing OutOfMemory k packets shut within h = tt
 
-  -- one behind the window
-  pub behind_standing : (s : Standing) (k : Crossing) (packets : List Stamp) → p.last_record < q.number → IsWithin s (length records)
-      → IsStanding s (crossed_by p records) records p k packets → IsStanding s (crossed_by p all) all p k packets
-  behind_standing s k packets behind = same_standing s k packets (λ e. crossed_behind behind ∙ e) (behind_none behind)
-
 -- ---- a connection
 
 abbrev StandsBy : List Captured → Line → Parameters → Type 0
 StandsBy records l p = IsStanding l.standing (crossed_by p records) records p (crossed_in l.builder) l.packets.items
 
-pub line_begun : (l : Line) (p : Parameters) → l.params ≡ p → l.standing ≡ Reading → crossed_in l.builder ≡ nothing_crossed p → l.packets.items ≡ [] → l.taken ≡ 0 → IsLine [] l
-line_begun l p params reading none packets taken = record {
-  standing = subst (λ (s : Standing). IsStanding s (crossed_by l.params []) [] l.params (crossed_in l.builder) l.packets.items) (sym reading)
-      (crossed_none l.params ∙ ap (λ (x : Parameters). Ok (nothing_crossed x)) params ∙ ap (λ (k : Crossing). Ok k) (sym none), packets);
-  within = subst (λ (s : Standing). IsWithin s 0) (sym reading) tt;
+pub line_begun : (l : Line) (p : Parameters) → l.params ≡ p → l.standing ≡ Reading → crossed_in l.builder ≡ nothing_crossed p → l.packets.items ≡ [] → l.opens ≡ None → l.taken ≡ 0 → IsLine [] l
+line_begun l p params reading none packets unopened taken = record {
+  stands = record {
+    standing = subst (λ (s : Standing). IsStanding s (crossed_by l.params []) [] l.params (crossed_in l.builder) l.packets.items) (sym reading)
+        (crossed_none l.params ∙ ap (λ (x : Parameters). Ok (nothing_crossed x)) params ∙ ap (λ (k : Crossing). Ok k) (sym none), packets);
+    within = subst (λ (s : Standing). IsWithin s 0) (sym reading) tt;
+    shown = subst (λ (s : Standing). IsShowing s l.params (packets_held l.params []) l.shown) (sym reading) tt;
+  };
+  opens = unopened ∙ sym (ap (λ r. opens_first l.params (filter_map (λ (x : Captured). packet_at l.params (numbered x)) r)) (take_all l.params.last_record [] (omega arith)));
   taken = omega (arith, taken);
 }
 
 first_of : (a b : Numbered) → a ≡ b → a.0 ≡ b.0
 first_of a b e = ap (λ (n : Numbered). n.0) e
 
-pub line_judged : (old new : Line) (r : Numbered) (time : Option CaptureTime) → old.standing ≡ Reading → r.0 ≤ old.params.last_record → IsJudged old new r time
-    → new.params ≡ old.params → new.taken ≡ r.0 → TakesIn old new r time
-line_judged old new r time reading inside judged params taken records q is next timed h =
-    let p = old.params in
-    let number = first_of _ _ is in
-    let size = length_push records q in
-    let same = subst (λ (x : Numbered). IsJudgedSo new.standing p (crossed_in old.builder) (crossed_in new.builder) old.packets.items new.packets.items x time) (sym is) judged in
-    let before = subst (λ (s : Standing). IsStanding s (crossed_by p records) records p (crossed_in old.builder) old.packets.items) reading h.standing in record {
-      standing = subst (StandsBy (records ++ q ∷ []) new) (sym params)
-          (judged_standing p records q (number ∙ next) new.standing (crossed_in old.builder) (crossed_in new.builder) old.packets.items new.packets.items time timed
-          (omega (arith, number, inside)) same before);
-      within = judged_within p records q (number ∙ next) new.standing (crossed_in old.builder) (crossed_in new.builder) old.packets.items new.packets.items time same;
-      taken = omega (arith, taken, next, size);
-    }
+-- ---- how it stands
 
--- what a record leaves as it was
+-- what is the same of both
 pub record SameLine (old new : Line) : Type 0 where
   pub params : new.params ≡ old.params
   pub builder : new.builder ≡ old.builder
   pub packets : new.packets.items ≡ old.packets.items
   pub standing : new.standing ≡ old.standing
+  pub shown : new.shown ≡ old.shown
 
-pub line_stopped : (old new : Line) (r : Numbered) (time : Option CaptureTime) → (old.standing ≡ Reading → ⊥) → SameLine old new → new.taken ≡ r.0 → TakesIn old new r time
-line_stopped old new r time shut same taken records q is next timed h =
+same_stands : (records : List Captured) (old new : Line) → SameLine old new → Stands records old → Stands records new
+same_stands records old new same h =
+    let p = old.params in record {
+      standing = subst (StandsBy records new) (sym same.params)
+          (subst (λ (s : Standing). IsStanding s (crossed_by p records) records p (crossed_in new.builder) new.packets.items) (sym same.standing)
+          (subst (λ (l : List Stamp). IsStanding old.standing (crossed_by p records) records p (crossed_in new.builder) l) (sym same.packets)
+          (subst (λ (b : StoreBuilder). IsStanding old.standing (crossed_by p records) records p (crossed_in b) old.packets.items) (sym same.builder) h.standing)));
+      within = subst (λ (s : Standing). IsWithin s (length records)) (sym same.standing) h.within;
+      shown = subst (λ (x : Parameters). IsShowing new.standing x (packets_held x records) new.shown) (sym same.params)
+          (subst (λ (s : Standing). IsShowing s p (packets_held p records) new.shown) (sym same.standing)
+          (subst (λ (s : Shown). IsShowing old.standing p (packets_held p records) s) (sym same.shown) h.shown));
+    }
+
+-- one of which memory is short
+pub short_stands : (records : List Captured) (l : Line) → l.standing ≡ OutOfMemory → Stands records l
+short_stands records l short = record {
+  standing = subst (λ (s : Standing). IsStanding s (crossed_by l.params records) records l.params (crossed_in l.builder) l.packets.items) (sym short) tt;
+  within = subst (λ (s : Standing). IsWithin s (length records)) (sym short) tt;
+  shown = subst (λ (s : Standing). IsShowing s l.params (packets_held l.params records) l.shown) (sym short) tt;
+}
+
+-- a record that changes neither what crossed nor the packets
+still_stands : (l : Line) (records : List Captured) (q : Captured) → q.number ≡ suc (length records)
+    → (crossed_by l.params records ≡ Ok (crossed_in l.builder) → crossed_by l.params (records ++ q ∷ []) ≡ Ok (crossed_in l.builder)) → holds_packet l.params q ≡ false
+    → Stands records l → Stands (records ++ q ∷ []) l
+still_stands l records q next same none h = record {
+  standing = same_standing l.params records q next l.standing (crossed_in l.builder) l.packets.items same none h.within h.standing;
+  within = same_within l.params records q next l.standing h.within;
+  shown = subst (λ (packets : List Packet). IsShowing l.standing l.params packets l.shown) (sym (held_none l.params records q next none)) h.shown;
+}
+
+pub passes_judged : (old new : Line) (r : Numbered) (time : Option CaptureTime) → old.standing ≡ Reading → r.0 ≤ old.params.last_record → IsJudged old new r time
+    → IsShowing new.standing old.params ((crossed_in old.builder).packets ++ option_to_list (packet_at old.params r)) new.shown → new.params ≡ old.params → Passes old new r time
+passes_judged old new r time reading inside judged shown params records q is next timed h =
+    let p = old.params in
+    let all : List Captured = records ++ q ∷ [] in
+    let number = first_of _ _ is in
+    let within : q.number ≤ p.last_record = omega (arith, number, inside) in
+    let same = subst (λ (x : Numbered). IsJudgedSo new.standing p (crossed_in old.builder) (crossed_in new.builder) old.packets.items new.packets.items x time) (sym is) judged in
+    let before = subst (λ (s : Standing). IsStanding s (crossed_by p records) records p (crossed_in old.builder) old.packets.items) reading h.standing in
+    let held : (crossed_in old.builder).packets ++ option_to_list (packet_at p r) ≡ packets_held p all =
+    ap (λ l. l ++ option_to_list (packet_at p r)) (crossed_held p records (crossed_in old.builder) before.0)
+    ∙ ap (λ (x : Numbered). packets_held p records ++ option_to_list (packet_at p x)) (sym is)
+    ∙ sym (held_inside p records q (number ∙ next) within) in record {
+      standing = subst (StandsBy all new) (sym params)
+          (judged_standing p records q (number ∙ next) new.standing (crossed_in old.builder) (crossed_in new.builder) old.packets.items new.packets.items time timed within same before);
+      within = judged_within p records q (number ∙ next) new.standing (crossed_in old.builder) (crossed_in new.builder) old.packets.items new.packets.items time same;
+      shown = subst (λ (x : Parameters). IsShowing new.standing x (packets_held x all) new.shown) (sym params)
+          (subst (λ (packets : List Packet). IsShowing new.standing p packets new.shown) held shown);
+    }
+
+-- the packet of a record is taken in
+pub record IsShownBy (old new : Line) (r : Numbered) : Type 0 where
+  pub params : new.params ≡ old.params
+  pub builder : new.builder ≡ old.builder
+  pub packets : new.packets.items ≡ old.packets.items
+  pub shown : (packets : List Packet) → IsShowing old.standing old.params packets old.shown
+      → IsShowing new.standing old.params (packets ++ option_to_list (packet_at old.params r)) new.shown
+
+stopped_stands : (old new : Line) (r : Numbered) (records : List Captured) (q : Captured) → (old.standing ≡ Reading → ⊥) → r.0 ≤ old.params.last_record → IsShownBy old new r → numbered q ≡ r
+    → r.0 ≡ suc (length records) → Stands records old → new.standing ≡ old.standing → Stands (records ++ q ∷ []) new
+stopped_stands old new r records q shut inside same is next h stays =
+    let p = old.params in
+    let all : List Captured = records ++ q ∷ [] in
+    let number = first_of _ _ is in
+    let held : packets_held p records ++ option_to_list (packet_at p r) ≡ packets_held p all =
+    ap (λ (x : Numbered). packets_held p records ++ option_to_list (packet_at p x)) (sym is) ∙ sym (held_inside p records q (number ∙ next) (omega (arith, number, inside))) in record {
+      standing = subst (StandsBy all new) (sym same.params)
+          (subst (λ (s : Standing). IsStanding s (crossed_by p all) all p (crossed_in new.builder) new.packets.items) (sym stays)
+          (subst (λ (l : List Stamp). IsStanding old.standing (crossed_by p all) all p (crossed_in new.builder) l) (sym same.packets)
+          (subst (λ (b : StoreBuilder). IsStanding old.standing (crossed_by p all) all p (crossed_in b) old.packets.items) (sym same.builder)
+          (stopped_standing p records q (number ∙ next) old.standing (crossed_in old.builder) old.packets.items shut h.within h.standing))));
+      within = subst (λ (s : Standing). IsWithin s (length all)) (sym stays) (same_within p records q (number ∙ next) old.standing h.within);
+      shown = subst (λ (x : Parameters). IsShowing new.standing x (packets_held x all) new.shown) (sym same.params)
+          (subst (λ (packets : List Packet). IsShowing new.standing p packets new.shown) held (same.shown (packets_held p records) h.shown));
+    }
+
+-- of a connection that is refused
+pub passes_shown : (old new : Line) (r : Numbered) (time : Option CaptureTime) → (old.standing ≡ Reading → ⊥) → r.0 ≤ old.params.last_record
+    → (new.standing ≡ old.standing) ⊎ (new.standing ≡ OutOfMemory) → IsShownBy old new r → Passes old new r time
+passes_shown old new r time shut inside (inl stays) same records q is next timed h = stopped_stands old new r records q shut inside same is next h stays
+passes_shown old new r time shut inside (inr short) same records q is next timed h = short_stands (records ++ q ∷ []) new short
+
+-- ---- one record more
+
+pub line_passed : (old begun mid new : Line) (r : Numbered) (time : Option CaptureTime) → r.0 ≤ old.params.last_record → SameLine old begun → Passes begun mid r time → SameLine mid new
+    → new.params ≡ old.params → new.opens ≡ opens_with old.opens (opens_by old.params (packet_at old.params r)) → new.taken ≡ r.0 → TakesIn old new r time
+line_passed old begun mid new r time inside start passes end params opens taken records q is next timed h =
+    let p = old.params in
+    let all : List Captured = records ++ q ∷ [] in
     let number = first_of _ _ is in
     let size = length_push records q in record {
-      standing = subst (StandsBy (records ++ q ∷ []) new) (sym same.params)
-          (subst (λ (s : Standing). IsStanding s (crossed_by old.params (records ++ q ∷ [])) (records ++ q ∷ []) old.params (crossed_in new.builder) new.packets.items) (sym same.standing)
-          (subst (λ (l : List Stamp). IsStanding old.standing (crossed_by old.params (records ++ q ∷ [])) (records ++ q ∷ []) old.params (crossed_in new.builder) l) (sym same.packets)
-          (subst (λ (b : StoreBuilder). IsStanding old.standing (crossed_by old.params (records ++ q ∷ [])) (records ++ q ∷ []) old.params (crossed_in b) old.packets.items) (sym same.builder)
-          (stopped_standing old.params records q (number ∙ next) old.standing (crossed_in old.builder) old.packets.items shut h.within h.standing))));
-      within = subst (λ (s : Standing). IsWithin s (length (records ++ q ∷ []))) (sym same.standing) (same_within old.params records q (number ∙ next) old.standing h.within);
+      stands = same_stands all mid new end (passes records q is next timed (same_stands records old begun start h.stands));
+      opens = opens ∙ ap (λ o. opens_with o (opens_by p (packet_at p r))) h.opens
+          ∙ ap (λ (x : Numbered). opens_with (opens_first p (packets_held p records)) (opens_by p (packet_at p x))) (sym is)
+          ∙ sym (opens_more p (packets_held p records) (packet_at p (numbered q)))
+          ∙ ap (opens_first p) (sym (held_inside p records q (number ∙ next) (omega (arith, number, inside))))
+          ∙ ap (λ (x : Parameters). opens_first x (packets_held x all)) (sym params);
       taken = omega (arith, taken, next, size);
     }
 
-pub line_behind : (old new : Line) (r : Numbered) (time : Option CaptureTime) → old.params.last_record < r.0 → SameLine old new → new.taken ≡ r.0 → TakesIn old new r time
-line_behind old new r time behind same taken records q is next timed h =
+pub line_behind : (old new : Line) (r : Numbered) (time : Option CaptureTime) → old.params.last_record < r.0 → SameLine old new → new.opens ≡ old.opens → new.taken ≡ r.0 → TakesIn old new r time
+line_behind old new r time behind same opens taken records q is next timed h =
+    let p = old.params in
+    let all : List Captured = records ++ q ∷ [] in
     let number = first_of _ _ is in
+    let beyond : p.last_record < q.number = omega (arith, number, behind) in
+    let none = behind_none p records q (number ∙ next) beyond in
     let size = length_push records q in record {
-      standing = subst (StandsBy (records ++ q ∷ []) new) (sym same.params)
-          (subst (λ (s : Standing). IsStanding s (crossed_by old.params (records ++ q ∷ [])) (records ++ q ∷ []) old.params (crossed_in new.builder) new.packets.items) (sym same.standing)
-          (subst (λ (l : List Stamp). IsStanding old.standing (crossed_by old.params (records ++ q ∷ [])) (records ++ q ∷ []) old.params (crossed_in new.builder) l) (sym same.packets)
-          (subst (λ (b : StoreBuilder). IsStanding old.standing (crossed_by old.params (records ++ q ∷ [])) (records ++ q ∷ []) old.params (crossed_in b) old.packets.items) (sym same.builder)
-          (behind_standing old.params records q (number ∙ next) old.standing (crossed_in old.builder) old.packets.items (omega (arith, number, behind)) h.within h.standing))));
-      within = subst (λ (s : Standing). IsWithin s (length (records ++ q ∷ []))) (sym same.standing) (same_within old.params records q (number ∙ next) old.standing h.within);
+      stands = same_stands all old new same (still_stands old records q (number ∙ next) (λ e. crossed_behind p records q (number ∙ next) beyond ∙ e) none h.stands);
+      opens = opens ∙ h.opens ∙ ap (opens_first p) (sym (held_none p records q (number ∙ next) none)) ∙ ap (λ (x : Parameters). opens_first x (packets_held x all)) (sym same.params);
       taken = omega (arith, taken, next, size);
     }
 
@@ -234,7 +314,7 @@ pub line_same : (l : Line) (records : List Captured) (q : Captured) → q.number
 line_same l records q next same none h =
     let size = length_push records q in
     let few = h.taken in record {
-      standing = same_standing l.params records q next l.standing (crossed_in l.builder) l.packets.items same none h.within h.standing;
-      within = same_within l.params records q next l.standing h.within;
+      stands = still_stands l records q next same none h.stands;
+      opens = h.opens ∙ ap (opens_first l.params) (sym (held_none l.params records q next none));
       taken = omega (arith, few, size);
     }

@@ -16,6 +16,7 @@ use Rattle.rasta_verdict.specs.Given.{IsUnscripted}
 use Rattle.seatmelon_audit.specs.Files.{StandsThrough}
 use Rattle.seatmelon_audit.specs.Messages.{IsConveyed}
 use Rattle.seatmelon_audit.specs.Records.{holding, stamp_of, subject_at, subject_of}
+use Rattle.seatmelon_audit.specs.Shown.{IsShownOf, packets_held}
 use Rattle.seatmelon_audit.specs.declared.answer.Answer.{Answer}
 use Rattle.seatmelon_audit.specs.declared.answer.Answer.TheVariants as answers
 use Rattle.seatmelon_audit.specs.declared.answer.Explained.{Explained}
@@ -68,25 +69,34 @@ pub data IsRefusal (p : Parameters) (file : List ℕ) (refusal : Refusal) : Type
 -- this becomes of the connection with these parameters in a file
 abbrev pub IsAnswer : Parameters → List ℕ → Answer → Type 0
 IsAnswer p file answers.NoPackets = (k : Crossing) × (crossing_of p file ≡ Ok k) × (k.packets ≡ [])
-IsAnswer p file (answers.Refused refusal) = IsRefusal p file refusal
+IsAnswer p file (answers.Refused refusal shown) = IsRefusal p file refusal
+    × IsShownOf p (packets_held p (captured_in file)) refusal.fault shown
 IsAnswer p file (answers.Explained e) = (k : Crossing) × (crossing_of p file ≡ Ok k) × IsExplained k e
 IsAnswer p file answers.OutOfMemory = ⊤
 
 -- ---- on the way
 
--- a refusal by this fault, which names the packet at its place
-abbrev pub RefusesBy : Fault → List Stamp → Answer → Type 0
-RefusesBy fault packets answers.NoPackets = ⊥
-RefusesBy fault packets (answers.Refused refusal) = (fault ≢ no_memory) × (refusal.fault ≡ fault)
-    × (refusal.subject ≡ subject_holding packets fault.place)
-RefusesBy fault packets (answers.Explained e) = ⊥
-RefusesBy fault packets answers.OutOfMemory = ⊤
+-- this refusal, and what is told beside it of what these packets show
+abbrev pub IsTold : Refusal → Parameters → List Packet → Answer → Type 0
+IsTold refusal p packets answers.NoPackets = ⊥
+IsTold refusal p packets (answers.Refused told shown) = (told ≡ refusal) × IsShownOf p packets refusal.fault shown
+IsTold refusal p packets (answers.Explained e) = ⊥
+IsTold refusal p packets answers.OutOfMemory = ⊤
+
+-- a refusal of what crossed by this fault, which names the packet at its place
+abbrev pub RefusesBy : Fault → Crossing → List Stamp → Answer → Type 0
+RefusesBy fault k packets answers.NoPackets = ⊥
+RefusesBy fault k packets (answers.Refused refusal shown) = (fault ≢ no_memory) × (refusal.fault ≡ fault)
+    × (refusal.subject ≡ subject_holding packets fault.place) × IsShownOf k.params k.packets fault shown
+RefusesBy fault k packets (answers.Explained e) = ⊥
+RefusesBy fault k packets answers.OutOfMemory = ⊤
 
 -- this becomes of what crossed, by packets that these records hold
 abbrev pub IsAnswerOn : Crossing → List Stamp → Answer → Type 0
 IsAnswerOn k packets answers.NoPackets = k.packets ≡ []
-IsAnswerOn k packets (answers.Refused refusal) = IsUnexplained k refusal.fault
+IsAnswerOn k packets (answers.Refused refusal shown) = IsUnexplained k refusal.fault
     × (refusal.subject ≡ subject_holding packets refusal.fault.place)
+    × IsShownOf k.params k.packets refusal.fault shown
 IsAnswerOn k packets (answers.Explained e) = IsExplained k e
 IsAnswerOn k packets answers.OutOfMemory = ⊤
 

@@ -24,7 +24,7 @@ pub record AreAudits (recorded : List Parameters) (file : List ℕ) (a : Audit) 
 -- what `audit` would write and answer for a connection alone: a text and a status of the capture, which decide of it
 abbrev pub IsAuditedAs : Parameters → List ℕ → Answer → Type 0
 IsAuditedAs p file answers.NoPackets = (text : List ℕ) × (status : ℕ) × IsAudit p file text status
-IsAuditedAs p file (answers.Refused refusal) = IsAudit p file (refused_line refusal.fault) 1
+IsAuditedAs p file (answers.Refused refusal shown) = IsAudit p file (refused_line refusal.fault) 1
     × Decides p file (refused_line refusal.fault) 1
 IsAuditedAs p file (answers.Explained e) = (text : List ℕ) × IsAudit p file text 0
 IsAuditedAs p file answers.OutOfMemory = ⊤

@@ -7,8 +7,10 @@ use Rattle.rasta_pdu.specs.Params.{Parameters}
 use Rattle.rasta_check.specs.Capture.Building.{crossed_in}
 use Rattle.rasta_check.specs.Capture.Crossing.{Crossing}
 use Rattle.rasta_check.specs.Capture.Reading.{then_crossing, at_end}
+use Rattle.seatmelon_middle.specs.Packets.{opens_first}
 use Rattle.seatmelon_audit.specs.Lines.{AreLines, IsChangedAt, IsLine, params_of}
 use Rattle.seatmelon_audit.specs.Records.{IsStanding, crossed_by}
+use Rattle.seatmelon_audit.specs.Shown.{IsShowing, packets_held}
 use Rattle.seatmelon_audit.specs.declared.line.Line.{Line}
 
 -- a fault of the file's header, or of what stands behind these records
@@ -24,19 +26,24 @@ abbrev pub crossed_to_end : Parameters → List Captured → Option Fault → Re
 crossed_to_end p records fault =
     then_crossing (crossed_by p records) (λ (k : Crossing). at_end k (fault_behind p records fault))
 
+-- a connection after these records and the fault that ended them
+pub record IsEnded (records : List Captured) (fault : Option Fault) (l : Line) : Type 0 where
+  pub standing : IsStanding l.standing (crossed_to_end l.params records fault) records l.params
+      (crossed_in l.builder) l.packets.items
+  pub opens : l.opens ≡ opens_first l.params (packets_held l.params records)
+  pub shown : IsShowing l.standing l.params (packets_held l.params records) l.shown
+
 -- what stood as the records say stands as the records and the fault say
 abbrev pub EndsBy : Line → Line → Fault → Type 0
 EndsBy old new fault = (records : List Captured) → IsFaultAfter records fault → IsLine records old
-    → IsStanding new.standing (crossed_to_end old.params records (Some fault)) records old.params
-    (crossed_in new.builder) new.packets.items
+    → IsEnded records (Some fault) new
 
 -- ---- all connections
 
 -- each connection stands as the records and the fault say
 abbrev pub AreEnded : List Captured → Fault → List Line → Type 0
-AreEnded records fault lines = (i : ℕ) (d : Line) → i < length lines → (let l = slice_index_or lines i d in
-    IsStanding l.standing (crossed_to_end l.params records (Some fault)) records l.params
-    (crossed_in l.builder) l.packets.items)
+AreEnded records fault lines = (i : ℕ) (d : Line) → i < length lines
+    → IsEnded records (Some fault) (slice_index_or lines i d)
 
 -- what stood as the records say stands as the records and the fault say
 abbrev pub AllEnd : List Line → List Line → Fault → Type 0

@@ -9,7 +9,9 @@ use Rattle.rasta_pcap.specs.Captured.{Captured, captured_from, captured_in}
 use Rattle.rasta_pcap.specs.Stream.{count_in, order_in, unit_in}
 use Rattle.rasta_check.specs.Capture.Building.{crossed_in}
 use Rattle.rasta_check.specs.Capture.Reading.{crossing_of}
+use Rattle.seatmelon_middle.specs.Packets.{opens_first}
 use Rattle.seatmelon_audit.specs.Records.{IsStanding}
+use Rattle.seatmelon_audit.specs.Shown.{IsShowing, packets_held}
 use Rattle.seatmelon_audit.specs.declared.line.Line.{Line}
 
 -- the records so far, and those that are left, are those of the file, and its fault is that of what is left
@@ -27,9 +29,11 @@ pub record ReaderOnWay (file : List ℕ) (records : RecordReader) (input : Optio
   pub on_way : IsOnWay file (order_in records) (unit_in records) (count_in records) rest done
 
 -- a connection stands as an audit of the file for it alone has it
-abbrev pub StandsThrough : List ℕ → Line → Type 0
-StandsThrough file l =
-    IsStanding l.standing (crossing_of l.params file) (captured_in file) l.params (crossed_in l.builder) l.packets.items
+pub record StandsThrough (file : List ℕ) (l : Line) : Type 0 where
+  pub standing : IsStanding l.standing (crossing_of l.params file) (captured_in file) l.params
+      (crossed_in l.builder) l.packets.items
+  pub opens : l.opens ≡ opens_first l.params (packets_held l.params (captured_in file))
+  pub shown : IsShowing l.standing l.params (packets_held l.params (captured_in file)) l.shown
 
 -- at the end each one does
 abbrev pub AreThrough : List ℕ → List Line → Type 0

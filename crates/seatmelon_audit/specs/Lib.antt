@@ -8,5 +8,6 @@ pub mod Lines
 pub mod Messages
 pub mod Reading
 pub mod Records
+pub mod Shown
 pub mod Sorting
 pub mod Ways

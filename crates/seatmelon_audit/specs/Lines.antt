@@ -9,7 +9,9 @@ use Rattle.rasta_pcap.specs.declared.time.CaptureTime.{CaptureTime}
 use Rattle.rasta_pcap.specs.Capture.{Numbered}
 use Rattle.rasta_pcap.specs.Captured.{Captured, numbered}
 use Rattle.rasta_check.specs.Capture.Building.{crossed_in}
+use Rattle.seatmelon_middle.specs.Packets.{opens_first}
 use Rattle.seatmelon_audit.specs.Records.{IsJudgedSo, IsStanding, crossed_by, is_any_held, is_held}
+use Rattle.seatmelon_audit.specs.Shown.{IsShowing, packets_held}
 use Rattle.seatmelon_audit.specs.declared.line.Line.{Line}
 use Rattle.seatmelon_audit.specs.declared.line.Standing.{Standing}
 use Rattle.seatmelon_audit.specs.declared.line.Standing.TheVariants.{OutOfMemory, Reading, Refused}
@@ -20,17 +22,28 @@ IsWithin Reading count = ⊤
 IsWithin (Refused refusal) count = refusal.fault.place ≤ count
 IsWithin OutOfMemory count = ⊤
 
--- the connection stands as these records say
-pub record IsLine (records : List Captured) (l : Line) : Type 0 where
+-- it stands as these records say, and where it is refused all its packets were taken in
+pub record Stands (records : List Captured) (l : Line) : Type 0 where
   pub standing : IsStanding l.standing (crossed_by l.params records) records l.params
       (crossed_in l.builder) l.packets.items
   pub within : IsWithin l.standing (length records)
+  pub shown : IsShowing l.standing l.params (packets_held l.params records) l.shown
+
+-- a connection after these records
+pub record IsLine (records : List Captured) (l : Line) : Type 0 where
+  pub stands : Stands records l
+  pub opens : l.opens ≡ opens_first l.params (packets_held l.params records)
   pub taken : l.taken ≤ length records
 
 abbrev pub IsJudged : Line → Line → Numbered → Option CaptureTime → Type 0
 IsJudged old new r time =
     IsJudgedSo new.standing old.params (crossed_in old.builder) (crossed_in new.builder)
     old.packets.items new.packets.items r time
+
+-- what stood as the records before the next one say, which was captured at this time, stands as it says too
+abbrev pub Passes : Line → Line → Numbered → Option CaptureTime → Type 0
+Passes old new r time = (records : List Captured) (q : Captured) → numbered q ≡ r → r.0 ≡ suc (length records)
+    → time ≡ Some q.time → Stands records old → Stands (records ++ q ∷ []) new
 
 -- what was so of the records before the next one, which was captured at this time, is so of it too
 abbrev pub TakesIn : Line → Line → Numbered → Option CaptureTime → Type 0

@@ -1,17 +1,22 @@
 //! What becomes of each connection.
-ghost use Rattle.std.specs.Prelude.{◌≡◌, ◌<◌, ◌^◌, length, map};
+ghost use Rattle.std.specs.Prelude.{◌≡◌, ◌<◌, ◌^◌, List, length, map, IfOk};
+ghost use Rattle.rasta_udp.specs.Frame.{Packet};
 ghost use Rattle.rasta_pdu.specs.Pdu.{messages_in, value_of};
+ghost use Rattle.rasta_check.specs.Middle.Seen.{IsSeen};
 ghost use Rattle.rasta_check.specs.Verdict.Listed.{listed_of};
 ghost use Rattle.rasta_check.specs.Verdict.Report.{explained as report_of};
-ghost use Rattle.seatmelon_audit.specs.Answers.{AreCounts, IsAnswerOf, IsAnswerOn, RefusesBy, subject_holding};
+ghost use Rattle.seatmelon_middle.specs.Packets.{opens_first};
+ghost use Rattle.seatmelon_audit.specs.Answers.{AreCounts, IsAnswerOf, IsAnswerOn, IsTold, RefusesBy, subject_holding};
 ghost use Rattle.seatmelon_audit.specs.Messages.{IsConveyed, added_by, messages_sent};
+ghost use Rattle.seatmelon_audit.specs.Shown.{IsShownOf};
 
 use crate::line::{Line, Refusal, Stamp, Standing, Subject};
-use rasta_check::{Report, SentList, SpanList, Store, Taken};
+use rasta_check::{Report, SentList, Shown, SpanList, Store, Taken};
 use rasta_pcap::Fault;
-use rasta_pdu::{Kind, Pdu};
+use rasta_pdu::{Kind, Params, Pdu};
 use rasta_verdict::{Verdict, judge_by};
-use std::alloc::Global;
+use seatmelon_middle::{ShownCounts, is_told};
+use std::alloc::{AllocError, Global};
 
 /// Of the messages that an end sent to the other.
 #[derive(Clone, Copy)]
@@ -42,7 +47,12 @@ pub enum Answer {
     NoPackets,
 
     /// The capture is refused, or no run of two ends sends these packets.
-    Refused(Refusal),
+    Refused {
+        refusal: Refusal,
+
+        /// How many captured messages were surely taken, by the packets of the window alone, where that is told.
+        shown: Option<ShownCounts>,
+    },
 
     /// Two ends that keep the rules can have sent the packets.
     Explained(Explained),
@@ -141,20 +151,66 @@ fn subject_holding(packets: &[Stamp], place: u32) -> Option<Subject>
     })
 }
 
+// What is told beside a refusal by this fault of a connection whose packets show this, and whose first packet opens it
+// or doesn't.
+fn told_beside(
+    alloc: Global,
+    params: &Params,
+    opens: Option<bool>,
+    fault: Fault,
+    shown: &Shown,
+) -> Result<Option<ShownCounts>, AllocError>
+    ensures { IfOk result (λ counts. (packets : List Packet) → IsSeen params.now packets shown.now
+        → opens ≡ opens_first params.now packets → IsShownOf params.now packets fault counts) }
+{
+    if !is_told(params, opens, fault) {
+        return Ok(None);
+    }
+    let lists = shown.lists(alloc)?;
+    Ok(Some(ShownCounts::of(&lists)))
+}
+
+// A refusal, with what is told beside it.
+fn refused(
+    alloc: Global,
+    params: &Params,
+    opens: Option<bool>,
+    refusal: Refusal,
+    shown: &Shown,
+) -> Answer
+    ensures { (packets : List Packet) → IsSeen params.now packets shown.now
+        → opens ≡ opens_first params.now packets → IsTold refusal params.now packets result }
+{
+    match told_beside(alloc, params, opens, refusal.fault, shown) {
+        Ok(shown) => Answer::Refused { refusal, shown },
+        Err(_) => Answer::OutOfMemory,
+    }
+}
+
 // The refusal by a fault of what crossed; a lack of memory is none.
-fn refused(packets: &[Stamp], fault: Fault) -> Answer
-    ensures { RefusesBy fault packets.now result }
+fn unexplained(
+    alloc: Global,
+    store: &Store,
+    packets: &[Stamp],
+    opens: Option<bool>,
+    fault: Fault,
+) -> Answer
+    ensures { opens ≡ opens_first store.now.params store.now.packets → RefusesBy fault store.now packets.now result }
 {
     if fault.number == Fault::NO_MEMORY {
         return Answer::OutOfMemory;
     }
     let subject = subject_holding(packets, fault.place);
-    Answer::Refused(Refusal { fault, subject })
+    let refusal = Refusal { fault, subject };
+    match Shown::of_store(alloc, store) {
+        Ok(shown) => refused(alloc, &store.params(), opens, refusal, &shown),
+        Err(_) => Answer::OutOfMemory,
+    }
 }
 
 // What becomes of what crossed.
-fn judged(alloc: Global, store: &Store, packets: &[Stamp]) -> Answer
-    ensures { IsAnswerOn store.now packets.now result }
+fn judged(alloc: Global, store: &Store, packets: &[Stamp], opens: Option<bool>) -> Answer
+    ensures { opens ≡ opens_first store.now.params store.now.packets → IsAnswerOn store.now packets.now result }
 {
     if store.len() == 0 {
         return Answer::NoPackets;
@@ -163,9 +219,9 @@ fn judged(alloc: Global, store: &Store, packets: &[Stamp]) -> Answer
         Ok(Verdict::Explained(explanation)) => {
             Answer::Explained(explained_of(store, &explanation.report))
         }
-        Ok(Verdict::Unscripted(fault)) => refused(packets, fault),
+        Ok(Verdict::Unscripted(fault)) => unexplained(alloc, store, packets, opens, fault),
         // A certificate that is proposed fits, so that this is never met.
-        Ok(Verdict::Refused(fault, _)) => refused(packets, fault),
+        Ok(Verdict::Refused(fault, _)) => unexplained(alloc, store, packets, opens, fault),
         Err(_) => Answer::OutOfMemory,
     }
 }
@@ -175,15 +231,18 @@ pub fn answer_of(alloc: Global, line: Line) -> Answer
     ensures { IsAnswerOf line result }
 {
     let Line {
+        params,
         builder,
         packets,
         standing,
+        opens,
+        shown,
         ..
     } = line;
     let store = builder.finish();
     match standing {
-        Standing::Reading => judged(alloc, &store, packets.as_slice()),
-        Standing::Refused(refusal) => Answer::Refused(refusal),
+        Standing::Reading => judged(alloc, &store, packets.as_slice(), opens),
+        Standing::Refused(refusal) => refused(alloc, &params, opens, refusal, &shown),
         Standing::OutOfMemory => Answer::OutOfMemory,
     }
 }

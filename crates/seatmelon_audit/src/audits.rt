@@ -27,7 +27,7 @@ fn answers_of(alloc: Global, lines: Vec<Line>) -> Result<Vec<Answer>, AllocError
 /// Audits the connections with these parameters in one reading of a capture, to its end or to where no record can be
 /// read. Each answer is that of an audit of the capture for that connection alone.
 ///
-/// Memory holds what crosses of all connections at once. Refused by [`Fault::NO_MEMORY`] where what is common to all
+/// Memory holds what crosses of all connections at once, and of one that is refused also what its packets show. Refused by [`Fault::NO_MEMORY`] where what is common to all
 /// has no room, and by [`Fault::READ_FAILED`]; a connection that has no room is answered so by itself.
 pub fn audit<R: Source>(alloc: Global, params: &[Params], reader: &mut R) -> Result<Audit, Fault>
     requires { length params.now < 2 ^ 32 }

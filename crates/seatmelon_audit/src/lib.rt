@@ -13,3 +13,4 @@ mod ways;
 pub use answer::{Answer, Audit, Conveyed, Explained};
 pub use audits::audit;
 pub use line::{Refusal, Subject};
+pub use seatmelon_middle::{Share, ShownCounts};

@@ -1,13 +1,15 @@
 //! A connection on its way through the records of a capture.
 ghost use Rattle.std.specs.Prelude.{◌≡◌, ◌≤◌, is_some};
+ghost use Rattle.rasta_udp.specs.Frame.{packet_of};
 ghost use Rattle.rasta_pdu.specs.Params.{IsWindow};
 ghost use Rattle.rasta_check.specs.Capture.Building.{crossed_in};
 ghost use Rattle.rasta_check.specs.Capture.Reading.{packet_at};
+ghost use Rattle.seatmelon_middle.specs.Packets.{pdu_of, requests};
 ghost use Rattle.seatmelon_audit.specs.Records.{subject_behind};
 
-use rasta_check::StoreBuilder;
+use rasta_check::{Shown, StoreBuilder};
 use rasta_pcap::{CaptureTime, Fault, Record};
-use rasta_pdu::{Params, recorded_packet};
+use rasta_pdu::{Datagram, Kind, Params, decode, recorded_packet};
 use std::alloc::Global;
 
 /// The record that holds a packet: its number, from 1, and when it was captured.
@@ -52,8 +54,15 @@ pub struct Line {
     pub(crate) packets: Vec<Stamp>,
     pub(crate) standing: Standing,
 
+    // Whether its first packet in the window opens the connection, if there was one.
+    pub(crate) opens: Option<bool>,
+
+    // What its packets in the window show, once it is refused; nothing before.
+    pub(crate) shown: Shown,
+
     // The number of the record that was taken in last.
     pub(crate) taken: u32,
+    alloc: Global,
     ghost window: { IsWindow params.first_record params.last_record },
     ghost recorded: { (crossed_in builder).params ≡ params },
 }
@@ -71,12 +80,25 @@ fn subject_behind(number: u32) -> Option<Subject>
     })
 }
 
+// Whether a packet is a connection request.
+fn is_request(params: &Params, packet: &Datagram<'_>) -> bool
+    ensures { result ≡ requests (pdu_of params.now (packet_of packet.now)) }
+{
+    match decode(params, packet.side, packet.payload) {
+        Ok(pdu) => pdu.kind().is(Kind::ConnectionRequest),
+        Err(_) => false,
+    }
+}
+
 impl Line {
-    ghost use Rattle.std.specs.Prelude.{[]};
+    ghost use Rattle.std.specs.Prelude.{[], ◌⊎◌, ◌++◌, List, option_to_list};
+    ghost use Rattle.rasta_udp.specs.Frame.{Packet};
     ghost use Rattle.seatmelon_audit.specs.Ends.{EndsBy};
-    ghost use Rattle.seatmelon_audit.specs.Lines.{HeldOnce, IsJudged, IsLine, IsStep, TakesIn};
+    ghost use Rattle.seatmelon_audit.specs.Lines.{HeldOnce, IsJudged, IsLine, IsStep, Passes, TakesIn};
     ghost use Rattle.seatmelon_audit.specs.Records.{IsNotedSo, is_held};
-    ghost use Rattle.seatmelon_audit.specs.declared.line.Standing.TheVariants.{Reading};
+    ghost use Rattle.seatmelon_audit.specs.Shown.{IsShowing, opens_by, opens_with};
+    ghost use Rattle.seatmelon_audit.specs.declared.line.Standing.TheVariants.{OutOfMemory as Short, Reading};
+    ghost use Rattle.seatmelon_audit.specs.declared.line.Standing.TheVariants.{Refused as IsRefused};
 
     /// Before the first record.
     pub fn new(alloc: Global, params: &Params) -> Line
@@ -88,7 +110,10 @@ impl Line {
             builder: StoreBuilder::new(alloc, *params),
             packets: Vec::new(alloc),
             standing: Standing::Reading,
+            opens: None,
+            shown: Shown::new(alloc, *params),
             taken: 0,
+            alloc,
         }
     }
 
@@ -103,7 +128,8 @@ impl Line {
     fn note(&mut self, number: u32, time: Option<CaptureTime>)
         requires reading { self.old.standing ≡ Reading }
         ensures noted { IsNotedSo self.new.standing self.old.packets.items self.new.packets.items number time }
-        ensures kept { (self.new.params ≡ self.old.params) × (self.new.builder ≡ self.old.builder) × (self.new.taken ≡ self.old.taken) }
+        ensures kept { (self.new.params ≡ self.old.params) × (self.new.builder ≡ self.old.builder)
+            × (self.new.taken ≡ self.old.taken) × (self.new.opens ≡ self.old.opens) }
     {
         let Some(time) = time else {
             return;
@@ -117,11 +143,77 @@ impl Line {
         }
     }
 
+    // Whether the packet of a record opens the connection, if it holds one.
+    fn opens_by(&self, record: &Record<'_>) -> Option<bool>
+        ensures { result ≡ opens_by self.now.params (packet_at self.now.params («record».now.number, «record».now.bytes.now)) }
+    {
+        match recorded_packet(&self.params, record) {
+            Ok(Some(packet)) => Some(is_request(&self.params, &packet)),
+            _ => None,
+        }
+    }
+
+    // Notes whether the packet of a record opens the connection, where it is the first one.
+    fn note_opening(&mut self, record: &Record<'_>)
+        ensures opens { self.new.opens ≡ opens_with self.old.opens
+            (opens_by self.old.params (packet_at self.old.params («record».now.number, «record».now.bytes.now))) }
+        ensures kept { (self.new.params ≡ self.old.params) × (self.new.builder ≡ self.old.builder)
+            × (self.new.packets.items ≡ self.old.packets.items) × (self.new.standing ≡ self.old.standing)
+            × (self.new.shown ≡ self.old.shown) × (self.new.taken ≡ self.old.taken) }
+    {
+        if self.opens.is_none() {
+            self.opens = self.opens_by(record);
+        }
+    }
+
+    // Refuses the connection. Its packets so far, which all crossed, are taken in again for what they show.
+    fn refuse(&mut self, refusal: Refusal)
+        ensures standing { (self.new.standing ≡ IsRefused refusal) ⊎ (self.new.standing ≡ Short) }
+        ensures shown { IsShowing self.new.standing self.old.params (crossed_in self.old.builder).packets
+            self.new.shown }
+        ensures kept { (self.new.params ≡ self.old.params) × (self.new.builder ≡ self.old.builder)
+            × (self.new.packets.items ≡ self.old.packets.items) × (self.new.opens ≡ self.old.opens)
+            × (self.new.taken ≡ self.old.taken) }
+    {
+        match Shown::of_store(self.alloc, self.builder.store()) {
+            Ok(shown) => {
+                self.shown = shown;
+                self.standing = Standing::Refused(refusal);
+            }
+            Err(_) => self.standing = Standing::OutOfMemory,
+        }
+    }
+
+    // Takes in the packet of a record of a connection that is refused, and answers whether it holds one.
+    fn show(&mut self, record: &Record<'_>) -> bool
+        ensures standing { (self.new.standing ≡ self.old.standing) ⊎ (self.new.standing ≡ Short) }
+        ensures shown { (packets : List Packet) → IsShowing self.old.standing self.old.params packets self.old.shown
+            → IsShowing self.new.standing self.old.params (packets
+            ++ option_to_list (packet_at self.old.params («record».now.number, «record».now.bytes.now)))
+            self.new.shown }
+        ensures held { result ≡ is_some (packet_at self.old.params («record».now.number, «record».now.bytes.now)) }
+        ensures kept { (self.new.params ≡ self.old.params) × (self.new.builder ≡ self.old.builder)
+            × (self.new.packets.items ≡ self.old.packets.items) × (self.new.opens ≡ self.old.opens)
+            × (self.new.taken ≡ self.old.taken) }
+    {
+        let Ok(Some(packet)) = recorded_packet(&self.params, record) else {
+            return false;
+        };
+        if self.shown.add(&packet).is_err() {
+            self.standing = Standing::OutOfMemory;
+        }
+        true
+    }
+
     // Judges a record up to the last one of the window, and answers whether it holds a packet of the connection.
     fn judge(&mut self, record: &Record<'_>, time: Option<CaptureTime>) -> bool
         requires reading { self.old.standing ≡ Reading }
         ensures judged { IsJudged self.old self.new («record».now.number, «record».now.bytes.now) time }
-        ensures kept { (self.new.params ≡ self.old.params) × (self.new.taken ≡ self.old.taken) }
+        ensures shown { IsShowing self.new.standing self.old.params ((crossed_in self.old.builder).packets
+            ++ option_to_list (packet_at self.old.params («record».now.number, «record».now.bytes.now)))
+            self.new.shown }
+        ensures kept { (self.new.params ≡ self.old.params) × (self.new.taken ≡ self.old.taken)
+            × (self.new.opens ≡ self.old.opens) }
         ensures held { result ≡ is_some (packet_at self.old.params («record».now.number, «record».now.bytes.now)) }
     {
         match self.builder.add(record) {
@@ -139,9 +231,25 @@ impl Line {
                     record: record.number,
                     time,
                 });
-                self.standing = Standing::Refused(Refusal { fault, subject });
-                self.sees(record)
+                self.refuse(Refusal { fault, subject });
+                self.show(record)
             }
+        }
+    }
+
+    // Takes in a record up to the last one of the window, by how the connection stands, and answers whether it holds a
+    // packet of it.
+    fn pass(&mut self, record: &Record<'_>, time: Option<CaptureTime>) -> bool
+        requires inside { «record».now.number ≤ self.old.params.last_record }
+        ensures stands { Passes self.old self.new («record».now.number, «record».now.bytes.now) time }
+        ensures held { result ≡ is_some (packet_at self.old.params («record».now.number, «record».now.bytes.now)) }
+        ensures kept { (self.new.params ≡ self.old.params) × (self.new.taken ≡ self.old.taken)
+            × (self.new.opens ≡ self.old.opens) }
+    {
+        match self.standing {
+            Standing::Reading => self.judge(record, time),
+            Standing::Refused(_) => self.show(record),
+            Standing::OutOfMemory => self.sees(record),
         }
     }
 
@@ -157,10 +265,11 @@ impl Line {
         if record.number > self.params.last_record() {
             return false;
         }
-        match self.standing {
-            Standing::Reading => self.judge(record, time),
-            Standing::Refused(_) | Standing::OutOfMemory => self.sees(record),
+        let held = self.pass(record, time);
+        if held {
+            self.note_opening(record);
         }
+        held
     }
 
     /// Takes in the next record, which was captured at this time, once, and then answers whether it holds a packet of the
@@ -183,10 +292,8 @@ impl Line {
     {
         if let Standing::Reading = self.standing {
             if fault.place <= self.params.last_record() {
-                self.standing = Standing::Refused(Refusal {
-                    fault,
-                    subject: subject_behind(fault.place),
-                });
+                let subject = subject_behind(fault.place);
+                self.refuse(Refusal { fault, subject });
             }
         }
     }

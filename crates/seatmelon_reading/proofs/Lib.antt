@@ -13,3 +13,4 @@ pub mod Silences
 pub mod Sorts
 pub mod Stored
 pub mod Told
+pub mod Unjudged

@@ -27,7 +27,7 @@ use Rattle.rasta_check.specs.Capture.Reading.{after_found, after_reading, after_
 use Rattle.rasta_check.specs.Capture.Building.{crossed_in}
 use Rattle.rasta_check.specs.declared.passage.Passage.{Passage}
 use Rattle.seatmelon_reading.specs.Noted.{AreNotes, is_left_out, passage_seen, seen_in}
-use Rattle.seatmelon_reading.specs.Passing.{HasPassed, IsBegun, IsOnWay, IsPassed, IsThrough, ReaderOnWay, TellsNext, TellsStill, TellsTrue, Whole, outcome_left, whole_of}
+use Rattle.seatmelon_reading.specs.Passing.{AreUnjudged, HasPassed, IsBegun, IsOnWay, IsPassed, IsThrough, KeepsNext, KeepsStill, ReaderOnWay, TellsNext, TellsStill, TellsTrue, Whole, outcome_left, whole_of}
 use Rattle.seatmelon_reading.proofs.Crossed.{record_params}
 use Rattle.seatmelon_reading.proofs.Stored.{stored_begun, stored_end, stored_next}
 use Rattle.seatmelon_reading.specs.Reading.{HasCrossed, IsSameBut, StaysOnceRefused, after_end, after_judged, after_next, reading_without, standing_in, standing_with}
@@ -39,6 +39,7 @@ use Rattle.seatmelon_reading.specs.Told.{AreLower, IsTrueOf}
 use Rattle.seatmelon_reading.specs.declared.notes.Notes.{Notes}
 use Rattle.seatmelon_reading.specs.declared.pass.Pass.{Pass}
 use Rattle.seatmelon_reading.proofs.Told.{true_as}
+use Rattle.seatmelon_reading.proofs.Unjudged.{unjudged_as, unjudged_begun}
 
 abbrev pub Standing : Type 0
 Standing = Result Crossing Fault
@@ -212,6 +213,9 @@ module _ (w : Whole) (order : Endianness) (unit : FractionUnit) (count : ℕ) (r
   stored_before = subst (λ (v : List ℕ). HasCrossed old.params v on.done (crossed_in old.builder) old.refusal) (sym on.without)
       (subst (λ (p : Parameters). HasCrossed p w.without on.done (crossed_in old.builder) old.refusal) (sym on.params) on.stored)
 
+  unjudged_before : AreUnjudged old.params old.without.now on.done (crossed_in old.builder) old.unjudged
+  unjudged_before = unjudged_as _ _ _ _ on.done (crossed_in old.builder) old.unjudged (sym on.params) (sym on.without) on.unjudged
+
   -- the records so far are those before the next
   passed_before : (place : ℕ) → place ≡ count + 1 → HasPassed old place on.done
   passed_before place one = record {
@@ -223,10 +227,10 @@ module _ (w : Whole) (order : Endianness) (unit : FractionUnit) (count : ℕ) (r
   }
 
   pub passed_record : (r : Numbered) (time : Option CaptureTime) (input : Option (List ℕ)) → NextOf order unit count r time rest input
-      → standing_in new ≡ after_next old.params old.without.now (standing_in old) r → NotesNext old new r time → TellsNext old new r time
+      → standing_in new ≡ after_next old.params old.without.now (standing_in old) r → NotesNext old new r time → TellsNext old new r time → KeepsNext old new r
       → new.params ≡ old.params → new.without.now ≡ old.without.now → new.notes.zero_is_no_time ≡ old.notes.zero_is_no_time → StaysOnceRefused old new
       → (left : List ℕ) × (input ≡ Some left) × IsOnWay w order unit r.0 left new
-  passed_record r time input h standing noted told params without untimed stays =
+  passed_record r time input h standing noted told keeps params without untimed stays =
       let c = cursor_at order rest count in
       let entry = next-is_next_entry c r h.is in
       let one : r.0 ≡ count + 1 = ap (λ (n : Numbered). n.0) entry.is in
@@ -257,6 +261,7 @@ module _ (w : Whole) (order : Endianness) (unit : FractionUnit) (count : ℕ) (r
               (omega arith);
           stored = stored.0;
           refused = stored.1;
+          unjudged = unjudged_as _ _ _ _ (on.done ++ q ∷ []) (crossed_in new.builder) new.unjudged on.params on.without (keeps on.done q stored_before unjudged_before refl);
         },
       )
 
@@ -265,6 +270,9 @@ module _ (w : Whole) (order : Endianness) (unit : FractionUnit) (count : ℕ) (r
 
   stored_all : captured_from (max_records - count) unit (cursor_at order rest count) ≡ [] → HasCrossed w.params w.without w.captured (crossed_in old.builder) old.refusal
   stored_all none = subst (λ l. HasCrossed w.params w.without l (crossed_in old.builder) old.refusal) (captured_all none) on.stored
+
+  unjudged_all : captured_from (max_records - count) unit (cursor_at order rest count) ≡ [] → AreUnjudged w.params w.without w.captured (crossed_in old.builder) old.unjudged
+  unjudged_all none = subst (λ l. AreUnjudged w.params w.without l (crossed_in old.builder) old.unjudged) (captured_all none) on.unjudged
 
   true_all : captured_from (max_records - count) unit (cursor_at order rest count) ≡ [] → ForSome old.refusal (IsTrueOf w.zero w.params w.without w.captured)
   true_all none = λ r e. subst (λ l. IsTrueOf w.zero w.params w.without l r) (captured_all none) (on.told r e)
@@ -276,10 +284,11 @@ module _ (w : Whole) (order : Endianness) (unit : FractionUnit) (count : ℕ) (r
     noted = subst (λ l. AreNotes w.params w.without l old.notes) (captured_all (captured_from-end (max_records - count) unit (cursor_at order rest count) is)) on.noted;
     told = true_all (captured_from-end (max_records - count) unit (cursor_at order rest count) is);
     stored = stored_all (captured_from-end (max_records - count) unit (cursor_at order rest count) is);
+    unjudged = unjudged_all (captured_from-end (max_records - count) unit (cursor_at order rest count) is);
   }
 
-  pub passed_fault : (f : Fault) → next (cursor_at order rest count) ≡ Err f → standing_in new ≡ after_end old.params (standing_in old) f → IsSameBut old new → TellsStill old new f.place → IsThrough w new
-  passed_fault f is standing kept still = record {
+  pub passed_fault : (f : Fault) → next (cursor_at order rest count) ≡ Err f → standing_in new ≡ after_end old.params (standing_in old) f → IsSameBut old new → TellsStill old new f.place → KeepsStill old new → IsThrough w new
+  passed_fault f is standing kept still keeps = record {
     zero = same_flag kept ∙ on.zero;
     standing = standing ∙ ap (λ (p : Parameters). after_end p (standing_in old) f) on.params
         ∙ standing_end w.params w.without (standing_in old) order rest count f is ∙ on.standing;
@@ -292,6 +301,8 @@ module _ (w : Whole) (order : Endianness) (unit : FractionUnit) (count : ℕ) (r
         (stored_end w.params w.without on.done (crossed_in old.builder) (crossed_in new.builder) old.refusal new.refusal f
         (subst (λ n. AreLower n on.done) (sym (fault_place f (count + 1) (next-fault_place (cursor_at order rest count) f is) ∙ add-one count)) on.lower) on.stored
         (standing ∙ ap (λ (p : Parameters). after_end p (standing_in old) f) on.params) kept.stays);
+    unjudged = subst (λ l. AreUnjudged w.params w.without l (crossed_in new.builder) new.unjudged) (captured_all (captured_from-fault (max_records - count) unit (cursor_at order rest count) f is))
+        (unjudged_as _ _ _ _ on.done (crossed_in new.builder) new.unjudged on.params on.without (keeps on.done unjudged_before));
   }
 
   -- as many records as a capture can have
@@ -305,6 +316,7 @@ module _ (w : Whole) (order : Endianness) (unit : FractionUnit) (count : ℕ) (r
             (captured_all (ap (λ n. captured_from n unit (cursor_at order rest count)) none ∙ captured_from-none_left unit (cursor_at order rest count))) on.noted;
         told = true_all (ap (λ n. captured_from n unit (cursor_at order rest count)) none ∙ captured_from-none_left unit (cursor_at order rest count));
         stored = stored_all (ap (λ n. captured_from n unit (cursor_at order rest count)) none ∙ captured_from-none_left unit (cursor_at order rest count));
+        unjudged = unjudged_all (ap (λ n. captured_from n unit (cursor_at order rest count)) none ∙ captured_from-none_left unit (cursor_at order rest count));
       }
 
 -- ---- the header
@@ -336,13 +348,14 @@ begun file rest order unit pass h within is told =
       told = none_refused _ _ _ pass.refusal h.standing;
       lower = All-nil (λ (x : Captured). x.number < 1);
       stored = stored_begun p pass.without.now (crossed_in pass.builder) pass.refusal h.standing;
+      unjudged = unjudged_begun p pass.without.now (crossed_in pass.builder) pass.refusal pass.unjudged h.standing h.unjudged;
       refused = none_refused _ _ _ pass.refusal h.standing;
     }
 
 pub begun_refused : (file : List ℕ) (f : Fault) (old new : Pass) → IsBegun old → opening file ≡ Err f → standing_in new ≡ after_end old.params (standing_in old) f
-    → IsSameBut old new → TellsStill old new f.place → IsThrough (whole_of old.notes.zero_is_no_time old.params old.without.now file) new
+    → IsSameBut old new → TellsStill old new f.place → KeepsStill old new → IsThrough (whole_of old.notes.zero_is_no_time old.params old.without.now file) new
 unfolding after_records
-begun_refused file f old new h is standing kept still =
+begun_refused file f old new h is standing kept still keeps =
     let p = old.params in
     let place : f.place ≡ 0 = fault_place f 0 (opening-fault_place file f is) in
     let none_passed : HasPassed old f.place [] = record {
@@ -362,6 +375,8 @@ begun_refused file f old new h is standing kept still =
       stored = subst (λ l. HasCrossed p old.without.now l (crossed_in new.builder) new.refusal) (sym (captured_in-refused file f is))
           (stored_end p old.without.now [] (crossed_in old.builder) (crossed_in new.builder) old.refusal new.refusal f (All-nil (λ (x : Captured). x.number < f.place))
           (stored_begun p old.without.now (crossed_in old.builder) old.refusal h.standing) standing kept.stays);
+      unjudged = subst (λ l. AreUnjudged p old.without.now l (crossed_in new.builder) new.unjudged) (sym (captured_in-refused file f is))
+          (keeps [] (unjudged_begun p old.without.now (crossed_in old.builder) old.refusal old.unjudged h.standing h.unjudged));
     }
 
 -- ---- the notes of the next record
@@ -393,14 +408,14 @@ pub reader_record : (w : Whole) (old new : RecordReader) (before after : Option 
     → ReadsRecord (order_in old) (count_in old) (number, bytes) before after → TellsTime (order_in old) (unit_in old) time before after
     → order_in new ≡ order_in old → unit_in new ≡ unit_in old → count_in new ≡ number
     → standing_in passed ≡ after_next pass.params pass.without.now (standing_in pass) (number, bytes) → NotesNext pass passed (number, bytes) time
-    → TellsNext pass passed (number, bytes) time → passed.params ≡ pass.params → passed.without.now ≡ pass.without.now
+    → TellsNext pass passed (number, bytes) time → KeepsNext pass passed (number, bytes) → passed.params ≡ pass.params → passed.without.now ≡ pass.without.now
     → passed.notes.zero_is_no_time ≡ pass.notes.zero_is_no_time → StaysOnceRefused pass passed → ReaderOnWay w old before pass → ReaderOnWay w new after passed
-reader_record w old new before after pass passed number bytes time read tells order unit count standing noted told params without untimed stays on =
+reader_record w old new before after pass passed number bytes time read tells order unit count standing noted told keeps params without untimed stays on =
     let r : Numbered = (number, bytes) in
     let reads = subst (λ (o : Option (List ℕ)). ReadsRecord (order_in old) (count_in old) r o after) on.1 read in
     let times = subst (λ (o : Option (List ℕ)). TellsTime (order_in old) (unit_in old) time o after) on.1 tells in
     let step = passed_record w (order_in old) (unit_in old) (count_in old) on.0 pass passed on.2 r time after
-    (known_record (order_in old) (unit_in old) (count_in old) r time on.0 after reads times) standing noted told params without untimed stays in
+    (known_record (order_in old) (unit_in old) (count_in old) r time on.0 after reads times) standing noted told keeps params without untimed stays in
     (step.0, step.1, on_way_as w (order_in old) (order_in new) (unit_in old) (unit_in new) number (count_in new) step.0 passed order unit count step.2)
 
 pub reader_number : (order : Endianness) (count number : ℕ) (bytes : List ℕ) (before after : Option (List ℕ)) → ReadsRecord order count (number, bytes) before after
@@ -420,12 +435,12 @@ WhyNone old most f old_count new_count before after = FailsWithin most f old_cou
 
 pub reader_fault : (w : Whole) (old : RecordReader) (most : ℕ) (f : Fault) (old_count new_count : ℕ) (before after : Option (List ℕ)) (pass passed : Pass)
     → WhyNone old most f old_count new_count before after → f ≢ no_memory → f ≢ read_failed
-    → standing_in passed ≡ after_end pass.params (standing_in pass) f → IsSameBut pass passed → TellsStill pass passed f.place → ReaderOnWay w old before pass → IsThrough w passed
-reader_fault w old most f old_count new_count before after pass passed (inl failed) memory read standing kept still on = absurd (read failed.0)
-reader_fault w old most f old_count new_count before after pass passed (inr (inl lacks)) memory read standing kept still on = absurd (memory lacks.0)
-reader_fault w old most f old_count new_count before after pass passed (inr (inr refuses)) memory read standing kept still on =
+    → standing_in passed ≡ after_end pass.params (standing_in pass) f → IsSameBut pass passed → TellsStill pass passed f.place → KeepsStill pass passed → ReaderOnWay w old before pass → IsThrough w passed
+reader_fault w old most f old_count new_count before after pass passed (inl failed) memory read standing kept still keeps on = absurd (read failed.0)
+reader_fault w old most f old_count new_count before after pass passed (inr (inl lacks)) memory read standing kept still keeps on = absurd (memory lacks.0)
+reader_fault w old most f old_count new_count before after pass passed (inr (inr refuses)) memory read standing kept still keeps on =
     passed_fault w (order_in old) (unit_in old) (count_in old) on.0 pass passed on.2 f
-    (known_refusal (order_in old) (count_in old) f on.0 after (subst (λ (o : Option (List ℕ)). RefusesRecord (order_in old) (count_in old) f o after) on.1 refuses)) standing kept still
+    (known_refusal (order_in old) (count_in old) f on.0 after (subst (λ (o : Option (List ℕ)). RefusesRecord (order_in old) (count_in old) f o after) on.1 refuses)) standing kept still keeps
 
 pub reader_all : (w : Whole) (old : RecordReader) (before : Option (List ℕ)) (pass : Pass) → count_in old ≡ max_records → ReaderOnWay w old before pass → IsThrough w pass
 reader_all w old before pass all on = passed_all w (order_in old) (unit_in old) (count_in old) on.0 pass pass on.2 all
@@ -444,10 +459,10 @@ reader_begun file records after pass h within opens tells none =
 
 pub reader_refused : (file : List ℕ) (f : Fault) (most old_count new_count : ℕ) (after : Option (List ℕ)) (old new : Pass)
     → FailsWithin most f old_count new_count (Some file) after ⊎ RefusesHeader f (Some file) after → f ≢ read_failed
-    → standing_in new ≡ after_end old.params (standing_in old) f → IsSameBut old new → TellsStill old new f.place → IsBegun old → IsThrough (whole_of old.notes.zero_is_no_time old.params old.without.now file) new
-reader_refused file f most old_count new_count after old new (inl failed) read standing kept still h = absurd (read failed.0)
-reader_refused file f most old_count new_count after old new (inr refuses) read standing kept still h =
-    begun_refused file f old new h (known_header_refusal f file after refuses) standing kept still
+    → standing_in new ≡ after_end old.params (standing_in old) f → IsSameBut old new → TellsStill old new f.place → KeepsStill old new → IsBegun old → IsThrough (whole_of old.notes.zero_is_no_time old.params old.without.now file) new
+reader_refused file f most old_count new_count after old new (inl failed) read standing kept still keeps h = absurd (read failed.0)
+reader_refused file f most old_count new_count after old new (inr refuses) read standing kept still keeps h =
+    begun_refused file f old new h (known_header_refusal f file after refuses) standing kept still keeps
 
 -- ---- a judged record
 
@@ -483,8 +498,8 @@ capture_read (Some file) after records (Ok x) old new within opens tells none re
 
 pub capture_refused : {A : Type 0} (input after : Option (List ℕ)) (f : Fault) (most old_count new_count : ℕ) (result : Result A Fault) (old new : Pass)
     → FailsWithin most f old_count new_count input after ⊎ RefusesHeader f input after → OnOk result ((f ≢ no_memory) × (f ≢ read_failed))
-    → OnOk result (standing_in new ≡ after_end old.params (standing_in old) f) → IsSameBut old new → OnOk result (TellsStill old new f.place) → IfSome input (λ file. OnOk result (IsPassed file old new))
-capture_refused None after f most old_count new_count result old new why told standing kept still = tt
-capture_refused (Some file) after f most old_count new_count (Err e) old new why told standing kept still = tt
-capture_refused (Some file) after f most old_count new_count (Ok x) old new why told standing kept still =
-    λ h. reader_refused file f most old_count new_count after old new why told.1 standing kept still h
+    → OnOk result (standing_in new ≡ after_end old.params (standing_in old) f) → IsSameBut old new → OnOk result (TellsStill old new f.place) → OnOk result (KeepsStill old new) → IfSome input (λ file. OnOk result (IsPassed file old new))
+capture_refused None after f most old_count new_count result old new why told standing kept still keeps = tt
+capture_refused (Some file) after f most old_count new_count (Err e) old new why told standing kept still keeps = tt
+capture_refused (Some file) after f most old_count new_count (Ok x) old new why told standing kept still keeps =
+    λ h. reader_refused file f most old_count new_count after old new why told.1 standing kept still keeps h

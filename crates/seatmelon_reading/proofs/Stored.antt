@@ -61,7 +61,7 @@ module _ (p : Parameters) (without : List ℕ) (done : List Captured) (q : Captu
       (judged_push ∙ ap (λ b. judged_of p without done ++ cond b (numbered q ∷ []) []) skipped ∙ append-nil (judged_of p without done)) ∙ before
 
   -- one that is judged is the next
-  taken_in : (k n : Crossing) → is_judged ≡ true → HaveCrossed p without done k → after_record k (numbered q) ≡ Ok n → HaveCrossed p without (done ++ q ∷ []) n
+  pub taken_in : (k n : Crossing) → is_judged ≡ true → HaveCrossed p without done k → after_record k (numbered q) ≡ Ok n → HaveCrossed p without (done ++ q ∷ []) n
   taken_in k n judged before is = ap (λ l. after_records (nothing_crossed p) l None)
       (judged_push ∙ ap (λ b. judged_of p without done ++ cond b (numbered q ∷ []) []) judged)
       ∙ pushed (nothing_crossed p) (judged_of p without done) (numbered q) ∙ ap (λ s. then_crossing s (λ m. after_record m (numbered q))) before ∙ is

@@ -1,6 +1,6 @@
 -- The reading of a known file on its way.
-use Rattle.std.specs.Prelude.{◌≡◌, ℕ, suc, ◌-◌, ◌<◌, ◌≤◌, List, [], ◌∷◌, ◌++◌, length, Bool, true, false, Option, Some, Result}
-use Rattle.std.specs.Prelude.{Ok, Err, ⊤}
+use Rattle.std.specs.Prelude.{◌≡◌, ℕ, suc, ◌-◌, ◌<◌, ◌≤◌, List, [], ◌∷◌, ◌++◌, length, map, Bool, true, false, Option}
+use Rattle.std.specs.Prelude.{Some, Result, Ok, Err, ⊤}
 use Rattle.std.specs.Option.{ForSome}
 use Rattle.rasta_pcap.specs.declared.fault.Fault.{Fault}
 use Rattle.rasta_pcap.specs.declared.pcap.Endianness.{Endianness}
@@ -14,11 +14,13 @@ use Rattle.rasta_pcap.specs.Stream.{count_in, order_in, progress_of, unit_in}
 use Rattle.rasta_pdu.specs.Params.{Parameters}
 use Rattle.rasta_check.specs.Capture.Crossing.{Crossing, nothing_crossed}
 use Rattle.rasta_check.specs.Capture.Reading.{after_reading}
-use Rattle.seatmelon_reading.specs.Noted.{AreNotes, is_left_out}
+use Rattle.seatmelon_reading.specs.Noted.{AreNotes, is_left_out, numbered_seen, seen_inside}
 use Rattle.rasta_check.specs.Capture.Building.{crossed_in}
 use Rattle.seatmelon_reading.specs.Reading.{HasCrossed, crossing_without, reading_without, standing_in}
+use Rattle.seatmelon_reading.specs.Tapes.{NumberedPacket, taped_in}
 use Rattle.seatmelon_reading.specs.Told.{AreLower, IsTrueOf}
 use Rattle.seatmelon_reading.specs.declared.pass.Pass.{Pass}
+use Rattle.seatmelon_reading.specs.declared.tape.Tape.{Tape}
 
 -- ---- what a refusal tells, record by record
 
@@ -45,6 +47,32 @@ TellsStaying old new r time = is_left_out old.without.now r.0 ≡ false → Tell
 -- what was true of the records so far, all of them before this place, still is
 abbrev pub TellsStill : Pass → Pass → ℕ → Type 0
 TellsStill old new place = (records : List Captured) → HasPassed old place records → TellsTrue new records
+
+-- ---- what is behind what crossed, record by record
+
+-- the packets of the connection in these records: first as many as crossed, and then those of the tape
+pub record AreUnjudged (p : Parameters) (without : List ℕ) (records : List Captured) (k : Crossing)
+    (t : Tape) : Type 0 where
+  pub first : List NumberedPacket
+  pub counted : length first ≡ length k.packets
+  pub whole : map numbered_seen (seen_inside p without records) ≡ first ++ taped_in t
+
+-- those of the records so far and of one more
+abbrev pub KeepsNext : Pass → Pass → Numbered → Type 0
+KeepsNext old new r = (records : List Captured) (q : Captured)
+    → HasCrossed old.params old.without.now records (crossed_in old.builder) old.refusal
+    → AreUnjudged old.params old.without.now records (crossed_in old.builder) old.unjudged → numbered q ≡ r
+    → AreUnjudged old.params old.without.now (records ++ q ∷ []) (crossed_in new.builder) new.unjudged
+
+-- of a record that stays
+abbrev pub KeepsStaying : Pass → Pass → Numbered → Type 0
+KeepsStaying old new r = is_left_out old.without.now r.0 ≡ false → KeepsNext old new r
+
+-- those of the records so far still are
+abbrev pub KeepsStill : Pass → Pass → Type 0
+KeepsStill old new = (records : List Captured)
+    → AreUnjudged old.params old.without.now records (crossed_in old.builder) old.unjudged
+    → AreUnjudged old.params old.without.now records (crossed_in new.builder) new.unjudged
 
 -- ---- a whole file
 
@@ -88,6 +116,7 @@ pub record IsOnWay (w : Whole) (order : Endianness) (unit : FractionUnit) (count
   pub told : ForSome pass.refusal (IsTrueOf w.zero w.params w.without done)
   pub lower : AreLower (suc count) done
   pub stored : HasCrossed w.params w.without done (crossed_in pass.builder) pass.refusal
+  pub unjudged : AreUnjudged w.params w.without done (crossed_in pass.builder) pass.unjudged
   pub refused : ForSome pass.refusal (λ r. r.fault.place ≤ count)
 
 -- at the end
@@ -97,6 +126,7 @@ pub record IsThrough (w : Whole) (pass : Pass) : Type 0 where
   pub noted : AreNotes w.params w.without w.captured pass.notes
   pub told : ForSome pass.refusal (IsTrueOf w.zero w.params w.without w.captured)
   pub stored : HasCrossed w.params w.without w.captured (crossed_in pass.builder) pass.refusal
+  pub unjudged : AreUnjudged w.params w.without w.captured (crossed_in pass.builder) pass.unjudged
 
 -- the input is known, and a reader stands so on the way
 abbrev pub ReaderOnWay : Whole → RecordReader → Option (List ℕ) → Pass → Type 0
@@ -121,6 +151,7 @@ ReadsOnIf false old new = ⊤
 pub record IsBegun (pass : Pass) : Type 0 where
   pub standing : standing_in pass ≡ Ok (nothing_crossed pass.params)
   pub noted : AreNotes pass.params pass.without.now [] pass.notes
+  pub unjudged : taped_in pass.unjudged ≡ []
 
 -- a file was passed
 abbrev pub IsPassed : List ℕ → Pass → Pass → Type 0

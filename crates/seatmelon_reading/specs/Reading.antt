@@ -1,6 +1,6 @@
 -- What a reading of a capture says of its file, where some records are left out.
-use Rattle.std.specs.Prelude.{◌≡◌, ◌≢◌, ⊤, ℕ, ◌&&◌, List, take, filter, map, not, nat_le, nat_lt, Bool, Option, None}
-use Rattle.std.specs.Prelude.{Some, Result, Ok, Err, if◌then◌else◌}
+use Rattle.std.specs.Prelude.{◌≡◌, ◌≢◌, ⊤, ℕ, ◌&&◌, List, length, take, drop, filter, map, not, nat_le, nat_lt, Bool}
+use Rattle.std.specs.Prelude.{Option, None, Some, Result, Ok, Err, if◌then◌else◌}
 use Rattle.sha2.specs.Sha256.{sha256}
 use Rattle.std.specs.Option.{ForSome}
 use Rattle.rasta_pcap.specs.declared.fault.Fault.{Fault}
@@ -15,7 +15,8 @@ use Rattle.rasta_check.specs.Capture.Reading.{after_reading, after_record, after
 use Rattle.seatmelon_capture.specs.Header.{header_in}
 use Rattle.seatmelon_pcapng.specs.Formats.{capture_of, format_of}
 use Rattle.seatmelon_pcapng.specs.Peeked.{begins_pcapng}
-use Rattle.seatmelon_reading.specs.Noted.{AreNotes, is_left_out}
+use Rattle.seatmelon_reading.specs.Noted.{AreNotes, is_left_out, numbered_seen, seen_inside}
+use Rattle.seatmelon_reading.specs.Tapes.{taped_in}
 use Rattle.seatmelon_reading.specs.declared.capture_refusal.CaptureRefusal.{CaptureRefusal}
 use Rattle.seatmelon_reading.specs.declared.pass.Pass.{Pass}
 use Rattle.seatmelon_reading.specs.declared.reading.Reading.{Reading}
@@ -94,6 +95,9 @@ pub record IsReading (p : Parameters) (without file : List ℕ) (r : Reading) : 
   pub crossed : standing_with r.store r.refusal ≡ crossing_without p without (capture_of file)
   pub stored : HasCrossed p without (captured_in (capture_of file)) r.store r.refusal
   pub noted : AreNotes p without (captured_in (capture_of file)) r.notes
+  -- the packets of the connection behind those that crossed
+  pub unjudged : taped_in r.unjudged
+      ≡ drop (length r.store.packets) (map numbered_seen (seen_inside p without (captured_in (capture_of file))))
   pub untimed : r.notes.zero_is_no_time ≡ begins_pcapng file
   pub told : ForSome r.refusal (IsTrueOf (begins_pcapng file) p without (captured_in (capture_of file)))
   pub due : ForSome r.refusal (λ f. f.next_number ≡ due_of r.store f.fault)

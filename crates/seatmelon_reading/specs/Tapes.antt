@@ -1,4 +1,4 @@
--- The packets of a connection, which are kept on demand.
+-- The packets of a connection that are kept, on demand or behind what crossed.
 use Rattle.std.specs.Prelude.{ℕ, List, [], ◌∷◌, map, Option, None, Some}
 use Rattle.rasta_udp.specs.Frame.{Packet}
 use Rattle.seatmelon_reading.specs.declared.tape.Tape.{Tape}

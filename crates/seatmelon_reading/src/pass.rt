@@ -1,5 +1,5 @@
 //! The records of a capture, one after the other: what crosses by them, and what is noted of them.
-ghost use Rattle.std.specs.Prelude.{◌≡◌, ◌≢◌, ◌≤◌, ◌⊎◌, ◌↔◌, IsTrue, suc, ◌++◌, ◌∷◌, [], List, length, option_map, Ok, Err, None, Some, IfErr, IfOk, OnOk};
+ghost use Rattle.std.specs.Prelude.{◌≡◌, ◌≢◌, ◌≤◌, ◌⊎◌, ◌↔◌, IsTrue, true, suc, ◌++◌, ◌∷◌, [], List, length, option_map, Ok, Err, None, Some, IfErr, IfOk, OnOk};
 ghost use Rattle.std.specs.Option.{ForSome};
 ghost use Rattle.rasta_pcap.specs.Captured.{Captured, numbered};
 ghost use Rattle.rasta_pcap.specs.Fault.{no_memory, read_failed};
@@ -10,11 +10,13 @@ ghost use Rattle.rasta_check.specs.Capture.Passages as passages;
 ghost use Rattle.rasta_check.specs.Capture.Crossing.{nothing_crossed};
 ghost use Rattle.rasta_check.specs.Capture.Reading.{packet_found};
 ghost use Rattle.seatmelon_reading.specs.Noted.{AreNotes, passage_seen, seen_in};
+ghost use Rattle.seatmelon_reading.specs.Tapes.{taped_in};
 ghost use Rattle.seatmelon_reading.specs.Told.{IsAskedFor, due_of};
 
 use crate::capture_refusal::CaptureRefusal;
 use crate::frames::packet;
 use crate::notes::{Notes, Sighting};
+use crate::tape::Tape;
 use crate::times::time_told;
 use crate::window::{Standing, standing_of};
 use rasta_check::{Passage, StoreBuilder};
@@ -31,11 +33,14 @@ pub struct Pass<'a> {
     pub(crate) builder: StoreBuilder,
     pub(crate) refusal: Option<CaptureRefusal>,
     pub(crate) notes: Notes,
+    // The packets in the window that are behind what crossed.
+    pub(crate) unjudged: Tape,
     ghost window: { IsWindow params.first_record params.last_record },
     ghost recorded: { (crossed_in builder).params ≡ params },
     ghost told: { ForSome refusal (λ r. (r.fault ≢ no_memory) × (r.fault ≢ read_failed)) },
     ghost due: { ForSome refusal (λ r. r.next_number ≡ due_of (crossed_in builder) r.fault) },
     ghost wanted: { ForSome refusal (λ r. ForSome r.wanted (IsAskedFor params r)) },
+    ghost taping: { unjudged.is_kept ≡ true },
 }
 
 // Where the packet of a record crossed, if it holds one of the recorded channels.
@@ -48,7 +53,7 @@ fn passage_in(params: &Params, record: &Record<'_>) -> Option<Passage>
 
 impl<'a> Pass<'a> {
     ghost use Rattle.seatmelon_reading.specs.Reading.{IsSameBut, StaysOnceRefused, after_end, after_judged, after_next, standing_in};
-    ghost use Rattle.seatmelon_reading.specs.Passing.{TellsNext, TellsStaying, TellsStill};
+    ghost use Rattle.seatmelon_reading.specs.Passing.{KeepsNext, KeepsStaying, KeepsStill, TellsNext, TellsStaying, TellsStill};
     ghost use Rattle.seatmelon_reading.specs.Told.{IsMadeOf};
 
     /// Before the first record.
@@ -64,6 +69,7 @@ impl<'a> Pass<'a> {
         ensures standing { standing_in result ≡ Ok (nothing_crossed params.now) }
         ensures noted { AreNotes params.now without.now [] result.notes }
         ensures untimed { result.notes.zero_is_no_time ≡ zero_is_no_time }
+        ensures unjudged { taped_in result.unjudged ≡ [] }
     {
         Pass {
             params: *params,
@@ -71,6 +77,7 @@ impl<'a> Pass<'a> {
             builder: StoreBuilder::new(alloc, *params),
             refusal: None,
             notes: Notes::new(alloc, zero_is_no_time, is_taped),
+            unjudged: Tape::new(alloc, true),
         }
     }
 
@@ -86,6 +93,7 @@ impl<'a> Pass<'a> {
         ensures made { OnOk result (ForSome self.new.refusal (IsMadeOf self.old.params (crossed_in self.old.builder) fault frame.now time self.old.notes)) }
         ensures told { OnOk result ((fault ≢ no_memory) × (fault ≢ read_failed)) }
         ensures kept { IsSameBut self.old self.new }
+        ensures behind { (crossed_in self.new.builder ≡ crossed_in self.old.builder) × (self.new.unjudged ≡ self.old.unjudged) }
         ensures err { IfErr result (λ f. (f ≡ no_memory) ⊎ (f ≡ read_failed)) }
     {
         if fault.is_failure() {
@@ -105,7 +113,7 @@ impl<'a> Pass<'a> {
         Ok(())
     }
 
-    // Judges a record of the window, and answers where its packet crossed.
+    // Judges a record of the window, and answers where its packet crossed. That of a refused one is kept.
     fn judge(
         &mut self,
         alloc: Global,
@@ -117,6 +125,7 @@ impl<'a> Pass<'a> {
         ensures standing { OnOk result (standing_in self.new
             ≡ after_judged self.old.params (standing_in self.old) («record».now.number, «record».now.bytes.now)) }
         ensures told { OnOk result (TellsStaying self.old self.new («record».now.number, «record».now.bytes.now) time) }
+        ensures unjudged { OnOk result (KeepsStaying self.old self.new («record».now.number, «record».now.bytes.now)) }
         ensures found { IfOk result (λ o. o ≡ passages.passage_in (packet_found (packet_in self.old.params.channels «record».now.bytes.now))) }
         ensures kept { IsSameBut self.old self.new }
         ensures err { IfErr result (λ f. (f ≡ no_memory) ⊎ (f ≡ read_failed)) }
@@ -125,12 +134,13 @@ impl<'a> Pass<'a> {
             Ok(passage) => Ok(passage),
             Err(fault) => {
                 self.refuse(alloc, fault, record.bytes, time)?;
+                self.unjudged.add(alloc, &self.params, record)?;
                 Ok(passage_in(&self.params, record))
             }
         }
     }
 
-    // Looks at a record of the window behind the refused one.
+    // Keeps the packet of a record of the window behind the refused one, and looks at it.
     fn look_at(
         &mut self,
         alloc: Global,
@@ -140,6 +150,7 @@ impl<'a> Pass<'a> {
         requires inside { (self.old.params.first_record ≤ «record».now.number) × («record».now.number ≤ self.old.params.last_record) }
         ensures standing { OnOk result (standing_in self.new ≡ standing_in self.old) }
         ensures told { OnOk result (TellsStaying self.old self.new («record».now.number, «record».now.bytes.now) time) }
+        ensures unjudged { OnOk result (KeepsStaying self.old self.new («record».now.number, «record».now.bytes.now)) }
         ensures found { IfOk result (λ o. o ≡ passages.passage_in (packet_found (packet_in self.old.params.channels «record».now.bytes.now))) }
         ensures kept { IsSameBut self.old self.new }
         ensures err { IfErr result (λ f. (f ≡ no_memory) ⊎ (f ≡ read_failed)) }
@@ -147,6 +158,7 @@ impl<'a> Pass<'a> {
         let Some(found) = packet(&self.params, record) else {
             return Ok(None);
         };
+        self.unjudged.push(alloc, record.number, &found)?;
         let sighting = Sighting {
             record: record.number,
             time: time_told(self.notes.zero_is_no_time, time),
@@ -169,6 +181,7 @@ impl<'a> Pass<'a> {
         ensures standing { OnOk result (standing_in self.new
             ≡ after_judged self.old.params (standing_in self.old) («record».now.number, «record».now.bytes.now)) }
         ensures told { OnOk result (TellsStaying self.old self.new («record».now.number, «record».now.bytes.now) time) }
+        ensures unjudged { OnOk result (KeepsStaying self.old self.new («record».now.number, «record».now.bytes.now)) }
         ensures found { IfOk result (λ o. o ≡ passages.passage_in (packet_found (packet_in self.old.params.channels «record».now.bytes.now))) }
         ensures kept { IsSameBut self.old self.new }
         ensures err { IfErr result (λ f. (f ≡ no_memory) ⊎ (f ≡ read_failed)) }
@@ -190,6 +203,7 @@ impl<'a> Pass<'a> {
         ensures standing { OnOk result (standing_in self.new
             ≡ after_next self.old.params self.old.without.now (standing_in self.old) («record».now.number, «record».now.bytes.now)) }
         ensures told { OnOk result (TellsNext self.old self.new («record».now.number, «record».now.bytes.now) time) }
+        ensures unjudged { OnOk result (KeepsNext self.old self.new («record».now.number, «record».now.bytes.now)) }
         ensures found { IfOk result (λ o. (r : Captured) → numbered r ≡ («record».now.number, «record».now.bytes.now)
             → o ≡ passage_seen (seen_in self.old.params self.old.without.now r)) }
         ensures kept { IsSameBut self.old self.new }
@@ -216,6 +230,7 @@ impl<'a> Pass<'a> {
             → numbered r ≡ («record».now.number, «record».now.bytes.now) → r.number ≡ suc (length records) → time ≡ Some r.time
             → AreNotes self.old.params self.old.without.now (records ++ r ∷ []) self.new.notes) }
         ensures told { OnOk result (TellsNext self.old self.new («record».now.number, «record».now.bytes.now) time) }
+        ensures unjudged { OnOk result (KeepsNext self.old self.new («record».now.number, «record».now.bytes.now)) }
         ensures kept { (self.new.params ≡ self.old.params) × (self.new.without.now ≡ self.old.without.now)
             × (self.new.notes.zero_is_no_time ≡ self.old.notes.zero_is_no_time) }
         ensures stays { StaysOnceRefused self.old self.new }
@@ -233,6 +248,7 @@ impl<'a> Pass<'a> {
         ensures standing { OnOk result (standing_in self.new ≡ after_end self.old.params (standing_in self.old) fault) }
         ensures told { OnOk result ((fault ≢ no_memory) × (fault ≢ read_failed)) }
         ensures still { OnOk result (TellsStill self.old self.new fault.place) }
+        ensures unjudged { OnOk result (KeepsStill self.old self.new) }
         ensures kept { IsSameBut self.old self.new }
         ensures err { IfErr result (λ f. (f ≡ no_memory) ⊎ (f ≡ read_failed)) }
     {

@@ -16,6 +16,7 @@ use crate::capture_refusal::CaptureRefusal;
 use crate::notes::Notes;
 use crate::pass::Pass;
 use crate::summed::Summed;
+use crate::tape::Tape;
 use rasta_check::Store;
 use rasta_pcap::stream::RecordReader;
 use rasta_pcap::{Buffered, Fault, Record, Source};
@@ -38,13 +39,17 @@ struct FileFacts {
     format: Format,
 }
 
-/// What a capture holds: what crossed by it up to its first fault, that fault, what is noted of its records, and the
-/// SHA-256, the header and the format of its file.
+/// What a capture holds: what crossed by it up to its first fault, that fault, what is noted of its records, the packets
+/// behind what crossed, and the SHA-256, the header and the format of its file.
 #[derive(Drop)]
 pub struct Reading {
     pub store: Store,
     pub refusal: Option<CaptureRefusal>,
     pub notes: Notes,
+
+    /// The packets of the connection in the window that are behind what crossed, with their datagrams: the refused one, if
+    /// the refused record holds one, and those of the records behind it.
+    pub unjudged: Tape,
     pub digest: [u8; 32],
 
     /// None where the file is shorter than a header, or begins with no magic number.
@@ -204,7 +209,7 @@ pub fn read_capture<R: Source>(
     reader: &mut R,
 ) -> Result<Reading, Fault>
     // Of a file that is known it is told what crossed by its capture or the first fault of that, what is noted of its
-    // records, and the sum, the header and the format of the file.
+    // records, the packets behind what crossed, and the sum, the header and the format of the file.
     ensures read { IfSome (R.remaining reader.old) (λ file. IfOk result (IsReading params.now without.now file)) }
     ensures fault { IfOk result (λ reading. TellsFault reading.refusal) }
     ensures err { IfErr result (λ f. (f ≡ no_memory) ⊎ (f ≡ read_failed)) }
@@ -222,12 +227,14 @@ pub fn read_capture<R: Source>(
         builder,
         refusal,
         notes,
+        unjudged,
         ..
     } = pass;
     Ok(Reading {
         store: builder.finish(),
         refusal,
         notes,
+        unjudged,
         digest,
         header,
         format,

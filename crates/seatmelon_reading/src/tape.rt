@@ -1,4 +1,4 @@
-//! The packets of the connection with their datagrams, which are kept on demand.
+//! The packets of the connection with their datagrams, which are kept on demand, or behind what crossed.
 ghost use Rattle.std.specs.Prelude.{◌≡◌, ◌∷◌, ◌++◌, [], true, OnOk, IfErr};
 ghost use Rattle.rasta_pcap.specs.Fault.{no_memory};
 ghost use Rattle.rasta_udp.specs.Frame.{packet_in, packet_of};
@@ -24,7 +24,8 @@ pub struct Taped {
     pub datagram: Vec<u8>,
 }
 
-/// The packets of the connection in the window, by place; none where they aren't kept.
+/// Packets of the connection in the window, in order: all of them, by place, or those behind what crossed; none where
+/// they aren't kept.
 #[derive(Drop)]
 pub struct Tape {
     pub is_kept: bool,
@@ -43,8 +44,13 @@ impl Tape {
         }
     }
 
-    // Takes in the packet of the record of this number.
-    fn push(&mut self, alloc: Global, number: u32, found: &Datagram<'_>) -> Result<(), AllocError>
+    /// Takes in the packet of the record of this number.
+    pub(crate) fn push(
+        &mut self,
+        alloc: Global,
+        number: u32,
+        found: &Datagram<'_>,
+    ) -> Result<(), AllocError>
         ensures kept { self.new.is_kept ≡ self.old.is_kept }
         ensures added { OnOk result (taped_in self.new ≡ taped_in self.old ++ numbered_with number (packet_of found.now) ∷ []) }
     {

@@ -8,25 +8,25 @@ use Rattle.seatmelon_tally.specs.declared.counts.Counts.{Counts}
 
 abbrev pub is_explained : Answer → Bool
 is_explained answers.NoPackets = false
-is_explained (answers.Refused refusal) = false
+is_explained (answers.Refused refusal shown) = false
 is_explained (answers.Explained e) = true
 is_explained answers.OutOfMemory = false
 
 abbrev pub is_refused : Answer → Bool
 is_refused answers.NoPackets = false
-is_refused (answers.Refused refusal) = true
+is_refused (answers.Refused refusal shown) = true
 is_refused (answers.Explained e) = false
 is_refused answers.OutOfMemory = false
 
 abbrev pub is_without_packets : Answer → Bool
 is_without_packets answers.NoPackets = true
-is_without_packets (answers.Refused refusal) = false
+is_without_packets (answers.Refused refusal shown) = false
 is_without_packets (answers.Explained e) = false
 is_without_packets answers.OutOfMemory = false
 
 abbrev pub is_out_of_memory : Answer → Bool
 is_out_of_memory answers.NoPackets = false
-is_out_of_memory (answers.Refused refusal) = false
+is_out_of_memory (answers.Refused refusal shown) = false
 is_out_of_memory (answers.Explained e) = false
 is_out_of_memory answers.OutOfMemory = true
 

@@ -28,7 +28,7 @@ fn is_explained(answer: &Answer) -> bool
 fn is_refused(answer: &Answer) -> bool
     ensures { result ≡ is_refused answer.now }
 {
-    matches!(answer, Answer::Refused(_))
+    matches!(answer, Answer::Refused { .. })
 }
 
 fn is_without_packets(answer: &Answer) -> bool

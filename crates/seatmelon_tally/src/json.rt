@@ -4,7 +4,7 @@ ghost use Rattle.rasta_pcap.specs.Fault.{write_failed};
 
 use crate::counts::Counts;
 use rasta_pcap::{CaptureTime, Fault, Side, Sink};
-use seatmelon_audit::{Answer, Audit, Conveyed, Explained, Refusal, Subject};
+use seatmelon_audit::{Answer, Audit, Conveyed, Explained, Refusal, Share, ShownCounts, Subject};
 use seatmelon_pcapng::Format;
 use seatmelon_survey::FileRefusal;
 use seatmelon_text::json::{write_long, write_string};
@@ -78,15 +78,48 @@ fn write_fault<W: Sink>(writer: &mut W, fault: Fault) -> Result<(), Fault>
     )
 }
 
-// Writes why a connection is refused.
-fn write_refusal<W: Sink>(writer: &mut W, refusal: &Refusal) -> Result<(), Fault>
+// Writes how many captured messages of an end there are, and how many of them were surely taken, under its name.
+fn write_share<W: Sink>(
+    writer: &mut W,
+    before: &'static str,
+    sender: Side,
+    share: Share,
+) -> Result<(), Fault>
+    ensures err { IfErr result (λ f. f ≡ write_failed) }
+{
+    tell!(writer, before, "\"", sender, "\":{\"captured\":")?;
+    write_long(writer, share.captured)?;
+    write_words(writer, ",\"surely_taken\":")?;
+    write_long(writer, share.taken)?;
+    write_words(writer, "}")
+}
+
+// Writes what was surely taken by the packets alone, or null where that isn't told.
+fn write_shown<W: Sink>(writer: &mut W, shown: Option<ShownCounts>) -> Result<(), Fault>
+    ensures err { IfErr result (λ f. f ≡ write_failed) }
+{
+    let Some(shown) = shown else {
+        return write_words(writer, ",\"from_the_middle\":null");
+    };
+    write_share(writer, ",\"from_the_middle\":{", Side::Client, shown.client)?;
+    write_share(writer, ",", Side::Server, shown.server)?;
+    write_words(writer, "}")
+}
+
+// Writes why a connection is refused, and what its packets show alone.
+fn write_refusal<W: Sink>(
+    writer: &mut W,
+    refusal: &Refusal,
+    shown: Option<ShownCounts>,
+) -> Result<(), Fault>
     ensures err { IfErr result (λ f. f ≡ write_failed) }
 {
     write_words(writer, "\"refused\",\"fault\":")?;
     write_fault(writer, refusal.fault)?;
     write_words(writer, "}")?;
     write_subject(writer, refusal.subject)?;
-    write_end(writer, refusal.fault.end)
+    write_end(writer, refusal.fault.end)?;
+    write_shown(writer, shown)
 }
 
 // Writes a verdict, with what is told of it.
@@ -95,7 +128,7 @@ fn write_verdict<W: Sink>(writer: &mut W, answer: &Answer) -> Result<(), Fault>
 {
     match answer {
         Answer::NoPackets => write_words(writer, "\"no_packets\""),
-        Answer::Refused(refusal) => write_refusal(writer, refusal),
+        Answer::Refused { refusal, shown } => write_refusal(writer, refusal, *shown),
         Answer::Explained(explained) => write_explained(writer, explained),
         Answer::OutOfMemory => write_words(writer, "\"out_of_memory\""),
     }

@@ -4,7 +4,7 @@ ghost use Rattle.rasta_pcap.specs.Fault.{write_failed};
 
 use crate::counts::Counts;
 use rasta_pcap::{CaptureTime, Fault, Side, Sink};
-use seatmelon_audit::{Answer, Audit, Conveyed, Explained, Refusal, Subject};
+use seatmelon_audit::{Answer, Audit, Conveyed, Explained, Refusal, Share, ShownCounts, Subject};
 use seatmelon_capture::write_other_link_type;
 use seatmelon_pcapng::Format;
 use seatmelon_survey::write_fault;
@@ -91,14 +91,58 @@ fn write_end_if<W: Sink>(writer: &mut W, end: Option<Side>) -> Result<(), Fault>
     }
 }
 
-// Writes why a connection is refused.
-fn write_refusal<W: Sink>(writer: &mut W, refusal: &Refusal) -> Result<(), Fault>
+// Writes how many captured messages of an end were surely taken, of how many.
+fn write_share<W: Sink>(
+    writer: &mut W,
+    sender: Side,
+    share: Share,
+    behind: &'static str,
+) -> Result<(), Fault>
+    ensures err { IfErr result (λ f. f ≡ write_failed) }
+{
+    tell!(
+        writer,
+        "; ",
+        sender,
+        " to ",
+        sender.other(),
+        ": ",
+        share.taken,
+        " of ",
+        share.captured,
+        behind
+    )
+}
+
+// Writes what was surely taken by the packets alone, where that is told.
+fn write_shown_if<W: Sink>(writer: &mut W, shown: Option<ShownCounts>) -> Result<(), Fault>
+    ensures err { IfErr result (λ f. f ≡ write_failed) }
+{
+    let Some(shown) = shown else {
+        return Ok(());
+    };
+    let messages = named(
+        shown.client.captured,
+        " captured message surely taken",
+        " captured messages surely taken",
+    );
+    write_share(writer, Side::Client, shown.client, messages)?;
+    write_share(writer, Side::Server, shown.server, ", whatever was missed")
+}
+
+// Writes why a connection is refused, and what its packets show alone.
+fn write_refusal<W: Sink>(
+    writer: &mut W,
+    refusal: &Refusal,
+    shown: Option<ShownCounts>,
+) -> Result<(), Fault>
     ensures err { IfErr result (λ f. f ≡ write_failed) }
 {
     let fault = refusal.fault;
     tell!(writer, "refused by ", fault.number, " ", fault.name())?;
     write_subject_if(writer, refusal.subject)?;
     write_end_if(writer, fault.end)?;
+    write_shown_if(writer, shown)?;
     write_words(writer, "\n")
 }
 
@@ -109,7 +153,7 @@ fn write_answer<W: Sink>(writer: &mut W, name: &str, answer: &Answer) -> Result<
     tell!(writer, name, ": ")?;
     match answer {
         Answer::NoPackets => write_words(writer, "no packets\n"),
-        Answer::Refused(refusal) => write_refusal(writer, refusal),
+        Answer::Refused { refusal, shown } => write_refusal(writer, refusal, *shown),
         Answer::Explained(explained) => write_explained(writer, explained),
         Answer::OutOfMemory => write_words(writer, "out of memory\n"),
     }

@@ -35,16 +35,20 @@ const FROM_OPENING: &str = "What is judged begins before the opening of the conn
 const FROM_LATER_OPENING: &str =
     "What is judged begins before the opening of the connection, and no copy of an earlier packet comes after it.";
 
-/// The premises of 'explained', but for what reached the tap and for where what is judged begins. Where there is no safety
-/// code, anybody can have sent a packet.
-pub fn further_premises(has_code: bool) -> [&'static str; 3] {
-    let strangers = if has_code {
+/// The premise on who sent the packets.
+pub fn strangers(has_code: bool) -> &'static str {
+    if has_code {
         NO_VALID_STRANGERS
     } else {
         NO_STRANGERS
-    };
+    }
+}
+
+/// The premises of 'explained', but for what reached the tap and for where what is judged begins. Where there is no safety
+/// code, anybody can have sent a packet.
+pub fn further_premises(has_code: bool) -> [&'static str; 3] {
     [
-        strangers,
+        strangers(has_code),
         "The parameters are right.",
         "For 'surely taken': both ends kept the rules.",
     ]

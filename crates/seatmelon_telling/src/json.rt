@@ -3,6 +3,7 @@ ghost use Rattle.std.specs.Prelude.{◌≡◌, IfErr};
 ghost use Rattle.rasta_pcap.specs.Fault.{write_failed};
 
 use crate::json_explained::write_explained;
+use crate::json_middle::write_middle;
 use crate::json_notes::{write_passed_over, write_times};
 use crate::json_params::{write_offers, write_params};
 use crate::json_places::write_number_if;
@@ -176,6 +177,7 @@ fn write_verdict<W: Sink>(writer: &mut W, account: &Account<'_>) -> Result<(), F
             let verdict = verdict_with(account.hypothesis.as_ref());
             tell!(writer, ",\"verdict\":\"", verdict, "\"")?;
             write_refusal(writer, account, refusal)?;
+            write_middle(writer, account)?;
             write_supposed(writer, account)
         }
         Verdict::Explained(explained) => {

@@ -4,7 +4,7 @@ ghost use Rattle.rasta_pcap.specs.Fault.{write_failed};
 
 use crate::explained::{premises, start_premise};
 use crate::json_places::{put_place, write_long_if, write_number_if};
-use rasta_pcap::{Fault, Sink};
+use rasta_pcap::{Fault, Side, Sink};
 use rasta_pdu::QuietEnd;
 use seatmelon_account::{Direction, Explained, Message, Start};
 use seatmelon_reading::Sighting;
@@ -83,6 +83,11 @@ fn put_proof<W: Sink>(
     }
 }
 
+/// A truth value of JSON.
+pub fn truth(is_so: bool) -> &'static str {
+    if is_so { "true" } else { "false" }
+}
+
 // Puts what a message has before its bytes.
 fn put_front<W: Sink>(
     writer: &mut W,
@@ -93,11 +98,6 @@ fn put_front<W: Sink>(
     ensures err { IfErr result (λ f. f ≡ write_failed) }
 {
     let quote = quotes_of(message.number);
-    let is_taken = if message.proof.is_some() {
-        "true"
-    } else {
-        "false"
-    };
     put_parts(
         writer,
         room,
@@ -107,7 +107,7 @@ fn put_front<W: Sink>(
             message.number,
             quote,
             ",\"surely_taken\":",
-            is_taken,
+            truth(message.proof.is_some()),
             ",\"data\":"
         ],
     )?;
@@ -136,8 +136,8 @@ fn put_message<W: Sink>(
     room.put(writer, b"}")
 }
 
-// Writes messages, one after the other.
-fn write_messages<W: Sink>(
+/// Writes messages, one after the other.
+pub fn write_messages<W: Sink>(
     writer: &mut W,
     packets: &[Sighting],
     messages: &[Message<'_>],
@@ -168,15 +168,16 @@ fn write_not_shown<W: Sink>(writer: &mut W, numbers: Option<(u64, u64)>) -> Resu
     write_words(writer, "}")
 }
 
-/// Writes the messages that an end sent.
-pub fn write_direction<W: Sink>(
+/// Writes who sent messages to whom, how many of them were surely taken, and under a key how many there are.
+pub fn write_shares<W: Sink>(
     writer: &mut W,
-    packets: &[Sighting],
-    direction: &Direction<'_>,
+    sender: Side,
+    taken: u64,
+    key: &'static str,
+    count: u64,
 ) -> Result<(), Fault>
     ensures err { IfErr result (λ f. f ≡ write_failed) }
 {
-    let sender = direction.sender;
     tell!(
         writer,
         "{\"from\":\"",
@@ -185,9 +186,22 @@ pub fn write_direction<W: Sink>(
         sender.other(),
         "\",\"surely_taken\":"
     )?;
-    write_long(writer, direction.taken)?;
-    write_words(writer, ",\"sent\":")?;
-    write_long(writer, direction.messages.len() as u64)?;
+    write_long(writer, taken)?;
+    tell!(writer, ",\"", key, "\":")?;
+    write_long(writer, count)
+}
+
+/// Writes the messages of an end, and under a key how many there are.
+pub fn write_direction<W: Sink>(
+    writer: &mut W,
+    packets: &[Sighting],
+    key: &'static str,
+    direction: &Direction<'_>,
+) -> Result<(), Fault>
+    ensures err { IfErr result (λ f. f ≡ write_failed) }
+{
+    let count = direction.messages.len() as u64;
+    write_shares(writer, direction.sender, direction.taken, key, count)?;
     write_not_shown(writer, direction.not_shown())?;
     write_words(writer, ",\"messages\":[")?;
     write_messages(writer, packets, &direction.messages)?;
@@ -206,8 +220,8 @@ pub fn write_explained<W: Sink>(
     write_premises(writer, explained)?;
     write_quiet_point(writer, &explained.start)?;
     write_words(writer, ",\"messages\":[")?;
-    write_direction(writer, packets, &explained.client)?;
+    write_direction(writer, packets, "sent", &explained.client)?;
     write_words(writer, ",")?;
-    write_direction(writer, packets, &explained.server)?;
+    write_direction(writer, packets, "sent", &explained.server)?;
     write_words(writer, "]")
 }

@@ -158,9 +158,9 @@ fn write_messages<W: Sink>(
 {
     write_premises(writer, hypothesis)?;
     write_words(writer, ",\"messages\":[")?;
-    write_direction(writer, packets, &hypothesis.client)?;
+    write_direction(writer, packets, "sent", &hypothesis.client)?;
     write_words(writer, ",")?;
-    write_direction(writer, packets, &hypothesis.server)?;
+    write_direction(writer, packets, "sent", &hypothesis.server)?;
     write_words(writer, "]")
 }
 

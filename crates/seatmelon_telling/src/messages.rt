@@ -4,7 +4,7 @@ ghost use Rattle.rasta_pcap.specs.Fault.{write_failed};
 
 use crate::page::place_of;
 use rasta_pcap::{CaptureTime, Fault, Side, Sink};
-use seatmelon_account::{Account, Direction, Message, Selection};
+use seatmelon_account::{Account, Direction, FromMiddle, Message, Selection};
 use seatmelon_reading::Sighting;
 use seatmelon_text::{Part, Room, parts, put_parts, tell, width, write_words};
 
@@ -245,18 +245,19 @@ fn put_message<W: Sink>(
 }
 
 // Writes the messages of an end that are chosen, and answers whether there is one.
-fn write_direction<W: Sink>(
+fn write_sent<W: Sink>(
     writer: &mut W,
     scene: &Scene<'_>,
-    direction: &Direction<'_>,
+    sender: Side,
+    messages: &[Message<'_>],
 ) -> Result<bool, Fault>
     ensures err { IfErr result (λ f. f ≡ write_failed) }
 {
     let mut room = Room::new();
     let mut is_any = false;
-    for message in &direction.messages {
+    for message in messages {
         if scene.selection.chooses(scene.packets, message) {
-            put_message(writer, &mut room, scene, direction.sender, message)?;
+            put_message(writer, &mut room, scene, sender, message)?;
             is_any = true;
         }
     }
@@ -264,16 +265,18 @@ fn write_direction<W: Sink>(
     Ok(is_any)
 }
 
-// Writes what the messages are headed by.
-fn write_heading<W: Sink>(writer: &mut W, scene: &Scene<'_>) -> Result<(), Fault>
+// Writes what the messages are headed by, behind these words.
+fn write_heading<W: Sink>(
+    writer: &mut W,
+    scene: &Scene<'_>,
+    what: &'static str,
+) -> Result<(), Fault>
     ensures err { IfErr result (λ f. f ≡ write_failed) }
 {
-    let what = if scene.selection == Selection::ALL {
-        "\nMessages"
-    } else {
-        "\nMessages that were chosen"
-    };
-    write_words(writer, what)?;
+    tell!(writer, "\n", what)?;
+    if scene.selection != Selection::ALL {
+        write_words(writer, " that were chosen")?;
+    }
     match scene.first {
         Some(first) => tell!(
             writer,
@@ -282,6 +285,37 @@ fn write_heading<W: Sink>(writer: &mut W, scene: &Scene<'_>) -> Result<(), Fault
             "):\n"
         ),
         None => write_words(writer, ":\n"),
+    }
+}
+
+// What the lines of an account's messages rest on.
+fn scene_of<'a>(account: &Account<'a>, selection: Selection, is_whole: bool) -> Scene<'a> {
+    Scene {
+        packets: account.packets,
+        first: account.packets.first().and_then(|first| first.time),
+        is_single: account.channels.len() == 1,
+        selection,
+        is_whole,
+    }
+}
+
+// Writes the messages of both ends that are chosen, behind these words, first those of the client.
+fn write_both<W: Sink>(
+    writer: &mut W,
+    scene: &Scene<'_>,
+    what: &'static str,
+    client: &[Message<'_>],
+    server: &[Message<'_>],
+) -> Result<(), Fault>
+    ensures err { IfErr result (λ f. f ≡ write_failed) }
+{
+    write_heading(writer, scene, what)?;
+    let is_any_of_client = write_sent(writer, scene, Side::Client, client)?;
+    let is_any_of_server = write_sent(writer, scene, Side::Server, server)?;
+    if is_any_of_client || is_any_of_server {
+        Ok(())
+    } else {
+        write_words(writer, "none\n")
     }
 }
 
@@ -296,19 +330,45 @@ pub fn write_messages<W: Sink>(
 ) -> Result<(), Fault>
     ensures err { IfErr result (λ f. f ≡ write_failed) }
 {
-    let scene = Scene {
-        packets: account.packets,
-        first: account.packets.first().and_then(|first| first.time),
-        is_single: account.channels.len() == 1,
-        selection,
-        is_whole,
-    };
-    write_heading(writer, &scene)?;
-    let is_any_of_client = write_direction(writer, &scene, client)?;
-    let is_any_of_server = write_direction(writer, &scene, server)?;
-    if is_any_of_client || is_any_of_server {
-        Ok(())
-    } else {
-        write_words(writer, "none\n")
+    let scene = scene_of(account, selection, is_whole);
+    write_both(
+        writer,
+        &scene,
+        "Messages",
+        &client.messages,
+        &server.messages,
+    )
+}
+
+/// Writes the messages that the packets alone show, those of captured data, and those that were sent again if there are
+/// any; likewise.
+pub fn write_shown_messages<W: Sink>(
+    writer: &mut W,
+    account: &Account<'_>,
+    middle: &FromMiddle<'_>,
+    selection: Selection,
+    is_whole: bool,
+) -> Result<(), Fault>
+    ensures err { IfErr result (λ f. f ≡ write_failed) }
+{
+    let scene = scene_of(account, selection, is_whole);
+    let (client, server) = (&middle.client.messages, &middle.server.messages);
+    write_both(
+        writer,
+        &scene,
+        "Captured messages, whatever came before and was missed",
+        client,
+        server,
+    )?;
+    let (client, server) = (&middle.client_resent, &middle.server_resent);
+    if client.is_empty() && server.is_empty() {
+        return Ok(());
     }
+    write_both(
+        writer,
+        &scene,
+        "Messages sent again, and first sent before these",
+        client,
+        server,
+    )
 }

@@ -8,6 +8,7 @@ use crate::fault_words::words_of;
 use crate::frames::{write_link_type, write_snapshot};
 use crate::gap::write_gap;
 use crate::layout::write_payload_due;
+use crate::middle::{write_middle, write_middle_messages};
 use crate::packet_text::{write_codes, write_datagram, write_differences, write_pdu};
 use crate::page::{write_judged, write_place, write_sighting, write_without};
 use crate::rule::write_rule;
@@ -352,7 +353,9 @@ pub fn write_refusal<W: Sink>(
     write_fault(writer, account, refusal.fault)?;
     write_subject(writer, account, refusal)?;
     write_hint(writer, hint_of(account, refusal))?;
+    write_middle(writer, account)?;
     write_supposed(writer, account)?;
     write_judged(writer, account)?;
+    write_middle_messages(writer, account, extent)?;
     write_supposed_messages(writer, account, extent)
 }

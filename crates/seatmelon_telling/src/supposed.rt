@@ -170,9 +170,15 @@ fn write_taken<W: Sink>(
         " captured messages surely taken"
     )?;
     if fillings > 1 {
-        tell!(writer, ", under each of ", fillings as u64, " fillings")?;
+        tell!(
+            writer,
+            " under each of these ",
+            fillings as u64,
+            " fillings, and under these alone\n"
+        )
+    } else {
+        write_words(writer, " under this filling, and under this alone\n")
     }
-    write_words(writer, "\n")
 }
 
 // Writes what the supposition says, and what it rests on.

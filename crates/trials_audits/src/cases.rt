@@ -85,25 +85,33 @@ pub fn line_of(alloc: Global, lines: &str) -> Option<String> {
 // Worked out by hand from the lines of `trials_rows`. `data` is an opening in three packets, data with two messages, and the
 // heartbeat of the server whose CS is the SN of the data: so both messages are surely taken. Where its third packet is
 // missing, the client's redundancy numbers go from 7 to 9 (28, at the record of the fourth). What begins with the third
-// packet, a client's heartbeat before any opening, no run sends (60, at its first packet). `lost` has data with one message in
+// packet, a client's heartbeat before any opening, no run sends (60, at its first packet). Of both the packets alone show
+// that the messages were taken: the heartbeat that confirms the SN of the data is there. `lost` has data with one message in
 // the place of `data`'s, with the same numbers. In `crossed` each end sends two messages, asks for them again and gets them,
 // and each one's last heartbeat confirms the other's last PDU; messages that are sent again count once.
 const AUDITS: &str = r#"
 == 1/data/0 2/data/0 1/data/1 9/data/0 2/data/1 1/data/2 2/data/3 1/data/3 2/data/4 1/data/4 | - | a.toml 1 1 4000000000, b.toml 2 1 4000000000, c.toml 3 1 4000000000, d.toml 1 1 6, e.toml 1 6 10 | 1 | Two connections in turn, a stranger's packet, one connection without packets, and two windows of the first one.
 a.toml: explained, 5 packets; client to server: 2 of 2 messages surely taken; server to client: 0 of 0
-b.toml: refused by 28 NumberGap, record 7, 1970-01-01 00:00:07.000000 UTC, client
+b.toml: refused by 28 NumberGap, record 7, 1970-01-01 00:00:07.000000 UTC, client; client to server: 2 of 2 captured messages surely taken; server to client: 0 of 0, whatever was missed
 c.toml: no packets
 d.toml: explained, 3 packets; client to server: 0 of 0 messages surely taken; server to client: 0 of 0
-e.toml: refused by 60 NotFound, record 6, 1970-01-01 00:00:06.000000 UTC
+e.toml: refused by 60 NotFound, record 6, 1970-01-01 00:00:06.000000 UTC; client to server: 2 of 2 captured messages surely taken; server to client: 0 of 0, whatever was missed
 5 connections: 2 explained, 2 refused, 1 without packets; 9 packets; 1 record of none of them
 -- json
 {"connections":[
 {"name":"a.toml","verdict":"explained","packets":5,"client":{"sent":2,"surely_taken":2},"server":{"sent":0,"surely_taken":0}},
-{"name":"b.toml","verdict":"refused","fault":{"number":28,"name":"NumberGap"},"record":7,"time":"1970-01-01 00:00:07.000000 UTC","end":"client"},
+{"name":"b.toml","verdict":"refused","fault":{"number":28,"name":"NumberGap"},"record":7,"time":"1970-01-01 00:00:07.000000 UTC","end":"client","from_the_middle":{"client":{"captured":2,"surely_taken":2},"server":{"captured":0,"surely_taken":0}}},
 {"name":"c.toml","verdict":"no_packets"},
 {"name":"d.toml","verdict":"explained","packets":3,"client":{"sent":0,"surely_taken":0},"server":{"sent":0,"surely_taken":0}},
-{"name":"e.toml","verdict":"refused","fault":{"number":60,"name":"NotFound"},"record":6,"time":"1970-01-01 00:00:06.000000 UTC","end":null}
+{"name":"e.toml","verdict":"refused","fault":{"number":60,"name":"NotFound"},"record":6,"time":"1970-01-01 00:00:06.000000 UTC","end":null,"from_the_middle":{"client":{"captured":2,"surely_taken":2},"server":{"captured":0,"surely_taken":0}}}
 ],"records":10,"packets":9,"others":1,"fault":null}
+== 1/lost/3 1/data/4 | - | a.toml 1 1 4000000000 | 1 | Neither opening nor quiet point, and one message.
+a.toml: refused by 60 NotFound, record 1, 1970-01-01 00:00:01.000000 UTC; client to server: 1 of 1 captured message surely taken; server to client: 0 of 0, whatever was missed
+1 connection: 1 refused; 2 packets; 0 records of none of them
+-- json
+{"connections":[
+{"name":"a.toml","verdict":"refused","fault":{"number":60,"name":"NotFound"},"record":1,"time":"1970-01-01 00:00:01.000000 UTC","end":null,"from_the_middle":{"client":{"captured":1,"surely_taken":1},"server":{"captured":0,"surely_taken":0}}}
+],"records":2,"packets":2,"others":0,"fault":null}
 == 2/crossed/0 1/lost/0 2/crossed/1 2/crossed/2 2/crossed/3 1/lost/1 2/crossed/4 2/crossed/5 2/crossed/6 1/lost/2 1/lost/3 2/crossed/7 2/crossed/8 2/crossed/9 2/crossed/10 2/crossed/11 2/crossed/12 1/data/4 2/crossed/13 2/crossed/14 2/crossed/15 2/crossed/16 | - | a.toml 1 1 4000000000, b.toml 2 1 4000000000 | 0 | Both are explained.
 a.toml: explained, 5 packets; client to server: 1 of 1 message surely taken; server to client: 0 of 0
 b.toml: explained, 17 packets; client to server: 2 of 2 messages surely taken; server to client: 2 of 2
@@ -121,9 +129,9 @@ the file ends inside record 2 (14 CutRecord)
 3 connections: 1 explained, 2 refused; 1 packet; 0 records of none of them
 -- json
 {"connections":[
-{"name":"a.toml","verdict":"refused","fault":{"number":14,"name":"CutRecord"},"record":2,"time":null,"end":null},
+{"name":"a.toml","verdict":"refused","fault":{"number":14,"name":"CutRecord"},"record":2,"time":null,"end":null,"from_the_middle":null},
 {"name":"b.toml","verdict":"explained","packets":1,"client":{"sent":0,"surely_taken":0},"server":{"sent":0,"surely_taken":0}},
-{"name":"c.toml","verdict":"refused","fault":{"number":14,"name":"CutRecord"},"record":2,"time":null,"end":null}
+{"name":"c.toml","verdict":"refused","fault":{"number":14,"name":"CutRecord"},"record":2,"time":null,"end":null,"from_the_middle":null}
 ],"records":1,"packets":1,"others":0,"fault":{"number":14,"name":"CutRecord","record":2}}
 == 1/data/0 | 34=4 | a.toml 1 1 4000000000 | 1 | The length of the record is 262144 more.
 a.toml: refused by 18 RecordTooLong, record 1
@@ -131,7 +139,7 @@ record 1 has more than 262144 bytes (18 RecordTooLong)
 1 connection: 1 refused; 0 packets; 0 records of none of them
 -- json
 {"connections":[
-{"name":"a.toml","verdict":"refused","fault":{"number":18,"name":"RecordTooLong"},"record":1,"time":null,"end":null}
+{"name":"a.toml","verdict":"refused","fault":{"number":18,"name":"RecordTooLong"},"record":1,"time":null,"end":null,"from_the_middle":null}
 ],"records":0,"packets":0,"others":0,"fault":{"number":18,"name":"RecordTooLong","record":1}}
 == 1/data/0 | 0=0 | a.toml 1 1 4000000000 | 1 | The header is refused.
 a.toml: refused by 10 NotPcap
@@ -139,7 +147,7 @@ this is not a classic libpcap file (10 NotPcap)
 1 connection: 1 refused; 0 packets; 0 records of none of them
 -- json
 {"connections":[
-{"name":"a.toml","verdict":"refused","fault":{"number":10,"name":"NotPcap"},"record":null,"time":null,"end":null}
+{"name":"a.toml","verdict":"refused","fault":{"number":10,"name":"NotPcap"},"record":null,"time":null,"end":null,"from_the_middle":null}
 ],"records":0,"packets":0,"others":0,"fault":{"number":10,"name":"NotPcap","record":null}}
 == 1/data/0 1/data/1 | - | - | 0 | No connection.
 0 connections; 0 packets; 2 records of none of them

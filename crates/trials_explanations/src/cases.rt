@@ -2,6 +2,7 @@
 //! texts costs a proof more than all of them in one.
 pub mod file_cases;
 pub mod json_cases;
+pub mod middle_cases;
 pub mod packet_cases;
 pub mod rule_cases;
 pub mod script_cases;

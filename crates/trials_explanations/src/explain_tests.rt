@@ -1,5 +1,6 @@
 //! The text of an explanation, and what is answered where a device goes wrong.
 use crate::cases::file_cases::files;
+use crate::cases::middle_cases::{counted, shown};
 use crate::cases::packet_cases::packets;
 use crate::cases::rule_cases::{RULE, TROUBLE, layouts, rules};
 use crate::cases::script_cases::scripts;
@@ -14,6 +15,9 @@ use seatmelon_explain::{Extent, Form, Inputs, Names, Outcome, Texts, explain};
 use std::alloc::Global;
 use std::process::Abort;
 use std::str;
+
+// What begins the lines on what the packets alone show.
+const SHOWN: &str = "\n\nclient to server: ";
 
 /// Explains a case by these parameters and this reader.
 pub fn written<'a, R: Source, W: Sink>(
@@ -77,12 +81,19 @@ fn text_of(alloc: Global, case: &Case<'_>, most: usize) -> Option<Vec<u8>> {
     Some(text)
 }
 
-// What is told before what was judged.
-fn verdict_in(text: &[u8]) -> Option<&str> {
-    let (verdict, _) = str::from_utf8(text)
+// What stands before what was judged.
+fn before_judged(text: &[u8]) -> Option<&str> {
+    let (told, _) = str::from_utf8(text)
         .ok()?
         .split_once("\nWhat was judged:\n")?;
-    Some(verdict)
+    Some(told)
+}
+
+// What is told of a verdict, without what the packets alone show, of which there are cases of its own.
+fn verdict_in(text: &[u8]) -> Option<&str> {
+    let told = before_judged(text)?;
+    let end = told.find(SHOWN).map_or(told.len(), |before| before + 1);
+    told.get(..end)
 }
 
 // Whether the text on a case, read in pieces of this size, is the one that is wanted.
@@ -145,6 +156,44 @@ fn first_wrong_after(alloc: Global, words: &str, cases: &'static str) -> Option<
         }
     }
     None
+}
+
+// What is told of the packets alone, and the messages behind what was judged.
+fn shown_in(text: &[u8]) -> Option<(&str, &str)> {
+    let (_, counts) = before_judged(text)?.split_once("\n\n")?;
+    let (_, counts) = counts.split_once(SHOWN)?;
+    let (_, messages) = str::from_utf8(text)
+        .ok()?
+        .split_once("\nCaptured messages")?;
+    Some((counts, messages))
+}
+
+// Whether both are those of a case.
+fn is_shown(alloc: Global, lines: &str) -> Option<bool> {
+    let case = case_in(lines)?;
+    let (counts, messages) = case.want.split_once("--\n")?;
+    let text = text_of(alloc, &case, 4096)?;
+    let (told, listed) = shown_in(&text)?;
+    let has_counts = counts.strip_prefix("client to server: ") == Some(told);
+    Some(has_counts && messages.strip_prefix("Captured messages") == Some(listed))
+}
+
+// Whether the lines of counts are those of a case.
+fn is_counted(alloc: Global, lines: &str) -> Option<bool> {
+    let case = case_in(lines)?;
+    let text = text_of(alloc, &case, 4096)?;
+    let want = case.want.strip_prefix("client to server: ")?;
+    Some(part_after(&text, SHOWN) == Some(want.trim_end()))
+}
+
+#[test]
+fn what_packets_show(rt: HostRuntime) {
+    for lines in shown().split(MARK).skip(1) {
+        assert_eq!(rt; is_shown(rt.alloc(), lines), Some(true), "{lines}");
+    }
+    for lines in counted().split(MARK).skip(1) {
+        assert_eq!(rt; is_counted(rt.alloc(), lines), Some(true), "{lines}");
+    }
 }
 
 #[test]

@@ -193,6 +193,18 @@ const DIRECTLY: &str = lines!(opened;
     "server 44 6213 504 101 9050 1010 -",
 );
 
+// One of two equal data is sent again, and it isn't told which.
+const EQUAL: &str = lines!(opened;
+    "server 41 6240 501 101 9010 1010 data01",
+    "server 42 6220 502 101 9020 1010 -",
+    "server 43 6240 503 101 9030 1010 data01",
+    "client 9 6212 102 500 1020 9000 -",
+    "server 44 6213 504 102 9040 1020 -",
+    "server 45 6241 505 102 9041 1020 data01",
+    "client 10 6220 103 505 1030 9041 -",
+    "server 46 6220 506 103 9050 1030 -",
+);
+
 // Each with four check bytes.
 const CHECKED: &str = lines!(
     "client 7 6200 100 0 1000 0 open aabbccdd",
@@ -216,6 +228,7 @@ pub fn lines_of(word: &str) -> Option<&'static str> {
         "heartbeats" => Some(HEARTBEATS),
         "beaten" => Some(BEATEN),
         "directly" => Some(DIRECTLY),
+        "equal" => Some(EQUAL),
         "checked" => Some(CHECKED),
         _ => None,
     }

@@ -69,7 +69,7 @@ const WHOLE: &str = r#"
 "trouble":{"code_found":null,"code_due":null,
 "first_copy":{"record":6,"time":"1970-01-01 00:00:00.000000 UTC","channel":1},"first_copy_bytes":null,
 "differences":[{"at":28,"found":"ff","first_copy":"fe"}],"may_differ_further":false},
-"lengths_fitting":null,"codes_judged":0,"codes_fitting":0,"line":null,"entry":null,"pdu":null,"rule":null}
+"lengths_fitting":null,"codes_judged":0,"codes_fitting":0,"line":null,"entry":null,"pdu":null,"rule":null,"from_the_middle":null}
 == data plain: - |  |  | plain |  | No packet at all.
 {"program":"seatmelon 0.1.0, proved with Rattle, logic dac8208d650f15bf",
 "capture":{"name":"c","sha256":"704e5e5b3234433c01fcfd1b20a306e77e985038120492dc53965c3edd38a4ea"},
@@ -97,7 +97,7 @@ const PARTS: &str = r#"
 "trouble":{"code_found":"7a9bef200a8e93ad6ea9b769f0c39b06","code_due":"7a9bef200a8e93ad6ea9b769f0c39b07",
 "first_copy":{"record":3,"time":"1970-01-01 00:00:00.000000 UTC","channel":1},"first_copy_bytes":null,
 "differences":[{"at":51,"found":"06","first_copy":"07"}],"may_differ_further":false},
-"lengths_fitting":null,"codes_judged":1,"codes_fitting":0,"line":null,"entry":null,"pdu":null,"rule":null}
+"lengths_fitting":null,"codes_judged":1,"codes_fitting":0,"line":null,"entry":null,"pdu":null,"rule":null,"from_the_middle":null}
 == data plain: 2 |  |  | code16 |  | A heartbeat without a safety code, where one of 16 bytes is recorded.
 "sn":101,"cs":500,"ts":1010,"cts":9000},"payload_and_codes":""},
 "trouble":{"least_bytes_due":52},"lengths_fitting":{"check_length":0,"code_lengths":[0]},
@@ -116,7 +116,7 @@ const PARTS: &str = r#"
 "last_before":{"packet":{"record":1,"time":"1970-01-01 00:00:00.000000 UTC","channel":1},"redundancy_number":7,"sn":100},
 "crosses_later":{"record":4,"time":"1970-01-01 00:00:00.000000 UTC","channel":1},"has_opening":true},
 == data plain: 0 1 cut |  |  | plain |  | A file that is cut in a record.
-"record":{"record":2,"time":null},"packet":null,"trouble":null,"lengths_fitting":null,"codes_judged":0,"codes_fitting":0,"line":null,"entry":null,"pdu":null,"rule":null}
+"record":{"record":2,"time":null},"packet":null,"trouble":null,"lengths_fitting":null,"codes_judged":0,"codes_fitting":0,"line":null,"entry":null,"pdu":null,"rule":null,"from_the_middle":null}
 == data plain: 0 | 20=20 21=1 |  | plain |  | Frames of another link type.
 "verdict":"refused","fault":{"number":12,"name":"LinkType","meaning":"the frames are not Ethernet frames",
 "cause":"the capture was made on the interface 'any'",
@@ -134,14 +134,14 @@ const PARTS: &str = r#"
 "cause":"the certificate is wrong: another one may explain the same packets",
 "next_step":"this line of the certificate"},
 "link_type":null,"link_type_name":null,"snapshot_length":null,"record":null,"packet":null,"trouble":null,
-"lengths_fitting":null,"codes_judged":null,"codes_fitting":null,"line":1,"entry":null,"pdu":null,"rule":null}
+"lengths_fitting":null,"codes_judged":null,"codes_fitting":null,"line":1,"entry":null,"pdu":null,"rule":null,"from_the_middle":null}
 == data plain: 0 1 2 |  |  | plain | rasta-certificate 1; client; make 0 1000 open; take 2 40; make 2 1010 reply; server; take 1 7; make 1 9000 beat; end;  | An entry of the server.
 "line":null,"entry":{"number":2,"end":"server","line":8},
 "pdu":{"end":"server","packet":{"record":2,"time":"1970-01-01 00:00:00.000000 UTC","channel":1},
 "fields":{"type":6201,"type_name":"connection response","redundancy_number":40,
-"sn":500,"cs":100,"ts":9000,"cts":1000,"messages":[]}},"rule":null}
+"sn":500,"cs":100,"ts":9000,"cts":1000,"messages":[]}},"rule":null,"from_the_middle":null}
 == data plain: 0 1 2 |  |  | plain | rasta-certificate 1; client; make 0 1000 open; take 2 41; make 2 1010 reply; server; take 1 7; make 1 9000 reply; end;  | It takes a packet that never crosses.
-"entry":{"number":2,"end":"client","line":4},"pdu":null,"rule":null}
+"entry":{"number":2,"end":"client","line":4},"pdu":null,"rule":null,"from_the_middle":null}
 == data plain: 3 |  |  | plain |  | Data, and no opening before it.
 "cause":"the capture begins in the middle of the connection, and the parameters record no quiet point;
  or the opening is there, but outside the window or on a channel that isn't recorded",
@@ -153,7 +153,39 @@ const PARTS: &str = r#"
 "fields":{"type":6240,"type_name":"data","redundancy_number":9,"sn":102,"cs":500,"ts":1020,"cts":9000,
 "messages":[{"hex":"ab01","text":"\\xab\\x01"},{"hex":"","text":""}]}},
 "rule":{"words":"CS 500 confirms a PDU of the server, and none crosses",
-"number_due":null,"number_found":null,"peer_pdu":null,"deadline":null}}
+"number_due":null,"number_found":null,"peer_pdu":null,"deadline":null},
+"from_the_middle":{"packets":1,"packets_before":null,
+"premises":["These packets crossed the tap, and all are of one connection.",
+"Nobody else sent a packet between the recorded addresses.",
+"The parameters are right.",
+"Both ends kept the rules, and neither made more than 2147483647 PDUs in this connection."],
+"messages":[{"from":"client","to":"server","surely_taken":0,"captured":2,"not_shown":{"first":0,"last":1},"messages":[
+{"message":0,"surely_taken":false,
+"data":{"record":1,"time":"1970-01-01 00:00:00.000000 UTC","channel":1},"proof":null,
+"hex":"ab01","text":"\\xab\\x01"},
+{"message":1,"surely_taken":false,
+"data":{"record":1,"time":"1970-01-01 00:00:00.000000 UTC","channel":1},"proof":null,
+"hex":"","text":""}]},
+{"from":"server","to":"client","surely_taken":0,"captured":0,"not_shown":null,"messages":[]}],
+"sent_again":[{"from":"client","to":"server","surely_taken":0,"sent_again":0,"messages":[]},
+{"from":"server","to":"client","surely_taken":0,"sent_again":0,"messages":[]}]}}
+== quiet plain: 0 1 4 |  |  | plain |  | What the packets before one show that doesn't fit to them.
+"from_the_middle":{"packets":2,
+"packets_before":{"packet":{"record":3,"time":"1970-01-01 00:00:00.000000 UTC","channel":1},"is_opening":false},
+"premises":["These packets crossed the tap, and all are of one connection.",
+== quiet plain: 0 1 3 |  |  | plain |  | And before an opening.
+"packets_before":{"packet":{"record":3,"time":"1970-01-01 00:00:00.000000 UTC","channel":1},"is_opening":true},
+== lost plain: 7 8 9 10 |  |  | plain |  | Data that were sent again, and first sent before.
+"sent_again":[{"from":"client","to":"server","surely_taken":2,"sent_again":2,"messages":[
+{"message":0,"surely_taken":true,
+"data":{"record":1,"time":"1970-01-01 00:00:00.000000 UTC","channel":1},
+"proof":{"record":4,"time":"1970-01-01 00:00:00.000000 UTC","channel":1},
+"hex":"01","text":"\\x01"},
+{"message":1,"surely_taken":true,
+"data":{"record":2,"time":"1970-01-01 00:00:00.000000 UTC","channel":1},
+"proof":{"record":4,"time":"1970-01-01 00:00:00.000000 UTC","channel":1},
+"hex":"02","text":"\\x02"}]},
+{"from":"server","to":"client","surely_taken":0,"sent_again":0,"messages":[]}]}}
 == data plain: 0 | 92=0 |  | plain |  | An unknown type.
 "trouble":{"type_found":6144},
 "lengths_fitting":null,"codes_judged":0,"codes_fitting":0,"line":null,
@@ -168,14 +200,14 @@ const PARTS: &str = r#"
 "rule":{"words":"CS 500 confirms a PDU of the server that crosses later","number_due":null,"number_found":null,
 "peer_pdu":{"end":"server","packet":{"record":3,"time":"1970-01-01 00:00:00.000000 UTC","channel":1},
 "fields":{"type":6201,"type_name":"connection response","redundancy_number":40,
-"sn":500,"cs":100,"ts":9000,"cts":1000,"messages":[]}},"deadline":null}}
+"sn":500,"cs":100,"ts":9000,"cts":1000,"messages":[]}},"deadline":null},"from_the_middle":{"packets":3,
 == timed plain: 0 1 2 5 |  |  | plain |  | A packet past its deadline.
 "peer_pdu":{"end":"client","packet":{"record":3,"time":"1970-01-01 00:00:00.000000 UTC","channel":1},
 "fields":{"type":6220,"type_name":"heartbeat","redundancy_number":8,
 "sn":101,"cs":500,"ts":1010,"cts":9000,"messages":[]}},
-"deadline":{"clock":10801,"confirmed_time":9000,"t_max":1800,"slack":0,"deadline":10800}}}
+"deadline":{"clock":10801,"confirmed_time":9000,"t_max":1800,"slack":0,"deadline":10800}},"from_the_middle":{"packets":4,
 == timed plain: 0 1 2 14 |  |  | plain |  | Another SN than the next one.
-"rule":{"words":"SN isn't the next one of this end","number_due":102,"number_found":112,"peer_pdu":null,"deadline":null}}
+"rule":{"words":"SN isn't the next one of this end","number_due":102,"number_found":112,"peer_pdu":null,"deadline":null},"from_the_middle":{"packets":3,
 == heartbeats plain: 0 1 2 3 5 |  | suppose=1 | plain |  | A heartbeat is missing, and data would do as well.
 "supposed":{"fillings":[[{"from":"server","before":{"record":5,"time":"1970-01-01 00:00:00.000000 UTC","channel":1},
 "redundancy_number":42,"type":6220,"type_name":"heartbeat","sn":502,"cs":101,"ts":9010,"cts":1010}],

@@ -16,4 +16,4 @@ pub returns-in-Err-clause-read : goal.returns-in-Err-clause-read
 returns-in-Err-clause-read g c =
     let end = c.end.ensures in
     capture_refused (g.S.Source.remaining c.args.source.now) (g.S.Source.remaining c.open.new.reader) c.in-Err.fault _ _ _ c.end.result c.args.pass.now c.end.new.self
-    c.in-Err.ensures.err end.told end.standing end.kept end.still
+    c.in-Err.ensures.err end.told end.standing end.kept end.still end.unjudged

@@ -18,7 +18,7 @@ returns-in_ok-add-in-Ok-Some-clause-step g c w on =
     let tells = subst (λ t. TellsTime (order_in old) (unit_in old) t before after) (sym c.time.ensures) timed in
     let add = c.in_ok-add-in-Ok-Some.ensures in
     reader_record w old c.advance.new.self before after c.args.pass.now c.add.new.self number c.buffer-bytes.result.now c.time.result read tells step.order step.unit count
-    add.standing add.noted add.told add.kept.0 add.kept.1 add.kept.2 add.stays on
+    add.standing add.noted add.told add.unjudged add.kept.0 add.kept.1 add.kept.2 add.stays on
 
 pub returns-in_ok-add-in-Ok-Some-clause-on : goal.returns-in_ok-add-in-Ok-Some-clause-on
 returns-in_ok-add-in-Ok-Some-clause-on g c =
@@ -34,4 +34,4 @@ returns-in-Ok-None-clause-step g c w on =
 pub returns-in_ok-end-in-Err-clause-step : goal.returns-in_ok-end-in-Err-clause-step
 returns-in_ok-end-in-Err-clause-step g c w on =
     let end = c.in_ok-end-in-Err.ensures in
-    reader_fault w c.args.records.now _ c.in-Err.fault _ _ _ _ c.args.pass.now c.end.new.self (c.in-Err.ensures.step.err c.requires) end.told.0 end.told.1 end.standing end.kept end.still on
+    reader_fault w c.args.records.now _ c.in-Err.fault _ _ _ _ c.args.pass.now c.end.new.self (c.in-Err.ensures.step.err c.requires) end.told.0 end.told.1 end.standing end.kept end.still end.unjudged on

@@ -20,6 +20,6 @@ returns-clause-read g c =
     let told = c.new-pass.ensures.untimed ∙ c.is_pcapng-is_pcapng.ensures ∙ ap (λ (f : Format). is_of_pcapng f) c.format.ensures in
     reading_made c.args.params.now c.args.without.now (g.R.Source.remaining c.args.reader.now) (remaining c.new-2.result) c.new-pass.result c.pass_file.new.pass c.finish.result
     c.in_ok-facts.facts.digest c.in_ok-facts.facts.header c.in_ok-facts.facts.format is
-    c.new-pass.ensures.params c.new-pass.ensures.without c.new-pass.ensures.standing c.new-pass.ensures.noted c.finish.ensures
+    c.new-pass.ensures.params c.new-pass.ensures.without c.new-pass.ensures.standing c.new-pass.ensures.noted c.new-pass.ensures.unjudged c.finish.ensures
     (IfSome-then _ (λ file. c.new-pass.result.notes.zero_is_no_time ≡ begins_pcapng file) (remaining c.new-2.result) (λ file begins. told ∙ begins) c.in_ok-capture.ensures.format)
     (facts.read c.new-2.result opened) (facts.summed c.new-2.result opened) (facts.header c.new-2.result opened) (facts.format c.new-2.result opened)

@@ -1,24 +1,42 @@
-use Rattle.std.proofs.Common.{◌≡◌, ⊎_elim, arith, refl}
-use Rattle.seatmelon_audit.specs.declared.line.Refusal.{Refusal}
-use Rattle.seatmelon_audit.specs.declared.line.Standing.TheVariants.{OutOfMemory, Reading, Refused}
-use Rattle.seatmelon_audit.proofs.Standings.{line_behind, line_judged, line_stopped}
+use Rattle.std.proofs.Common.{◌∙◌, ap, arith, refl, sym}
+use Rattle.rasta_pcap.specs.Capture.{Numbered}
+use Rattle.rasta_pdu.specs.Params.{Parameters}
+use Rattle.rasta_check.specs.Capture.Reading.{packet_at}
+use Rattle.seatmelon_audit.specs.Shown.{opens_by, opens_with}
+use Rattle.seatmelon_audit.proofs.Showing.{opens_still}
+use Rattle.seatmelon_audit.proofs.Standings.{line_behind, line_passed}
 use Rattle.seatmelon_audit.proofs.line.Line.add.Goals as goal
 
 pub returns-then-record-last_record-clause-line : goal.returns-then-record-last_record-clause-line
 returns-then-record-last_record-clause-line c =
     line_behind c.args.self.now _ (c.args.record.now.number, c.args.record.now.bytes.now) c.args.time (omega (arith, c.if-record-last_record.true, c.last_record.ensures.value))
-    (record { params = refl; builder = refl; packets = refl; standing = refl }) refl
+    (record { params = refl; builder = refl; packets = refl; standing = refl; shown = refl }) refl refl
 
-pub returns-in-Reading-clause-line : goal.returns-in-Reading-clause-line
-returns-in-Reading-clause-line c =
-    line_judged c.args.self.now c.judge.new.self (c.args.record.now.number, c.args.record.now.bytes.now) c.args.time c.in-Reading.is
-    (omega (arith, c.if-record-last_record.false, c.last_record.ensures.value)) c.judge.ensures.judged c.judge.ensures.kept.0 c.judge.ensures.kept.1
+pub returns-then-held-clause-line : goal.returns-then-held-clause-line
+returns-then-held-clause-line c =
+    let r : Numbered = (c.args.record.now.number, c.args.record.now.bytes.now) in
+    let old = c.args.self.now in
+    let mid = c.pass-held.new.self in
+    let passed = c.pass-held.ensures.kept in
+    let noted = c.note_opening.ensures.kept in
+    line_passed old _ mid c.note_opening.new.self r c.args.time (omega (arith, c.if-record-last_record.false, c.last_record.ensures.value))
+    (record { params = refl; builder = refl; packets = refl; standing = refl; shown = refl })
+    c.pass-held.ensures.stands
+    (record { params = noted.0; builder = noted.1; packets = noted.2; standing = noted.3; shown = noted.4 })
+    (noted.0 ∙ passed.0)
+    (c.note_opening.ensures.opens ∙ ap (λ o. opens_with o (opens_by mid.params (packet_at mid.params r))) passed.2
+    ∙ ap (λ (p : Parameters). opens_with old.opens (opens_by p (packet_at p r))) passed.0)
+    (noted.5 ∙ passed.1)
 
-pub returns-in-Refused-clause-line : goal.returns-in-Refused-clause-line
-returns-in-Refused-clause-line c =
-    line_stopped c.args.self.now _ (c.args.record.now.number, c.args.record.now.bytes.now) c.args.time
-    (λ (reading : c.args.self.now.standing ≡ Reading). ⊎_elim
-    (λ (is : (refusal : Refusal) × (c.args.self.now.standing ≡ Refused refusal)). let other = is.1 in cc)
-    (λ (is : c.args.self.now.standing ≡ OutOfMemory). cc)
-    c.in-Refused.is)
-    (record { params = refl; builder = refl; packets = refl; standing = refl }) refl
+pub returns-else-held-clause-line : goal.returns-else-held-clause-line
+returns-else-held-clause-line c =
+    let r : Numbered = (c.args.record.now.number, c.args.record.now.bytes.now) in
+    let old = c.args.self.now in
+    let passed = c.pass-held.ensures.kept in
+    line_passed old _ c.pass-held.new.self c.pass-held.new.self r c.args.time (omega (arith, c.if-record-last_record.false, c.last_record.ensures.value))
+    (record { params = refl; builder = refl; packets = refl; standing = refl; shown = refl })
+    c.pass-held.ensures.stands
+    (record { params = refl; builder = refl; packets = refl; standing = refl; shown = refl })
+    passed.0
+    (passed.2 ∙ opens_still old.params old.opens (packet_at old.params r) (sym c.pass-held.ensures.held ∙ c.if-held.false))
+    passed.1
