@@ -1358,19 +1358,7 @@ What it rests on:
   What is judged begins before the opening of the connection.
 
 What was judged:
-{capture}{parameters}  certificate: none was given, so one is built
-  program: seatmelon 0.1.0, proved with Rattle, logic dac8208d650f15bf
-  records read: 11
-  packets of the connection: 11
-    on channel 1, 10.0.0.1:5000 - 10.0.0.2:5000: from the client 7, from the server 4
-  records passed over: 0
-  ids: client 96, server 97
-  lengths: safety code 16, check code 4
-  start words: 0f1e2d3c4b5a69788796a5b4c3d2e1f0
-  limits: N_sendmax 20, T_max 1800, slack 0
-  quiet point: none
-Times of capture, which no verdict reads:
-  longest silence of the client: 10.000000 ms, between records 1 and 3
+{judged}  longest silence of the client: 10.000000 ms, between records 1 and 3
   longest silence of the server: 20.000000 ms, between records 2 and 6
 
 Captured messages, whatever came before and was missed (times are UTC; those without a date are of 2026-01-01):
@@ -1403,11 +1391,19 @@ look next at:
 
 {shown}
 What was judged:
+{judged}  longest silence of the client: 10.000000 ms, between records 2 and 4
+  longest silence of the server: 20.000000 ms, between records 3 and 7
+
+Captured messages, whatever came before and was missed (times are UTC; those without a date are of 2026-01-01):
+{messages}"""
+
+# What was judged, of so many packets from each end.
+JUDGED = """\
 {capture}{parameters}  certificate: none was given, so one is built
   program: seatmelon 0.1.0, proved with Rattle, logic dac8208d650f15bf
-  records read: 9
-  packets of the connection: 9
-    on channel 1, 10.0.0.1:5000 - 10.0.0.2:5000: from the client 6, from the server 3
+  records read: {packets}
+  packets of the connection: {packets}
+    on channel 1, 10.0.0.1:5000 - 10.0.0.2:5000: from the client {client}, from the server {server}
   records passed over: 0
   ids: client 96, server 97
   lengths: safety code 16, check code 4
@@ -1415,11 +1411,7 @@ What was judged:
   limits: N_sendmax 20, T_max 1800, slack 0
   quiet point: none
 Times of capture, which no verdict reads:
-  longest silence of the client: 10.000000 ms, between records 2 and 4
-  longest silence of the server: 20.000000 ms, between records 3 and 7
-
-Captured messages, whatever came before and was missed (times are UTC; those without a date are of 2026-01-01):
-{messages}"""
+"""
 
 # What the packets alone show of the retransmission, with or without its opening.
 SHOWN = """\
@@ -1462,10 +1454,12 @@ def message_lines(data, proof):
     ])  # fmt: skip
 
 
-def write_text_of(name, kind, text, messages):
-    """What a form of `explain` prints of a capture and its parameters, which have been written."""
+def write_text_of(name, kind, text, pdus, messages):
+    """What a form of `explain` prints of a capture of these PDUs and its parameters, which have been written."""
     sums = {"capture": sum_lines("capture", f"{name}.pcap"), "parameters": sum_lines("parameters", f"{name}.toml")}
-    told = text.format(shown=SHOWN, messages=messages, **sums)
+    counts = {side: sum(pdu.side == side for pdu in pdus) for side in ("client", "server")}
+    judged = JUDGED.format(packets=len(pdus), **counts, **sums)
+    told = text.format(shown=SHOWN, judged=judged, messages=messages)
     (HERE / "expected" / f"{name}.{kind}.txt").write_bytes(told.encode())
 
 
@@ -1522,10 +1516,10 @@ if __name__ == "__main__":
     write_excerpt_text()
     write("missing_packet", coded, in_turn(coded, MISSING_PACKET), MISSING_COMMENT)
     write_refusal("missing_packet", MISSING_REFUSAL)
-    write_text_of("missing_packet", "suppose", SUPPOSED, message_lines((4, 5, 10), (9, 9, 11)))
+    write_text_of("missing_packet", "suppose", SUPPOSED, MISSING_PACKET, message_lines((4, 5, 10), (9, 9, 11)))
     write("from_the_middle", coded, in_turn(coded, RETRANSMISSION[3:]), MIDDLE_COMMENT)
     write_refusal("from_the_middle", NO_OPENING)
-    write_text_of("from_the_middle", "explain", FROM_THE_MIDDLE, message_lines((1, 2, 8), (7, 7, 9)))
+    write_text_of("from_the_middle", "explain", FROM_THE_MIDDLE, RETRANSMISSION[3:], message_lines((1, 2, 8), (7, 7, 9)))
     write("foreign_sender", one, foreign_sender(one), FOREIGN_COMMENT, FOREIGN_REFUSAL)
     write_refusal("foreign_sender", FOREIGN_REFUSAL)
     both_coded = Connection(CHANNELS, 16, 4, OWN_START)
