@@ -1156,7 +1156,9 @@ def audit_line(each, records):
         told = f"refused by {each.refusal.number} {each.refusal.name}, record {record}, {time} UTC, {each.refusal.end}"
         client, server = (sent_by(side, each.pdus) for side in ("client", "server"))
         shown = f"{client} of {client} captured messages surely taken"
-        told += f"; client to server: {shown}; server to client: {server} of {server}, whatever was missed"
+        before = each.refusal.record - 1
+        told += f"; the {before} packets before it are explained; client to server: {shown}"
+        told += f"; server to client: {server} of {server}, by {len(each.pdus)} packets, whatever was missed"
     else:
         client = f"{len(each.story.server_took)} of {sent_by('client', each.pdus)} messages surely taken"
         server = f"{len(each.story.client_took)} of {sent_by('server', each.pdus)}"
@@ -1182,7 +1184,7 @@ def write_station():
     lines = [audit_line(each, records) for each in elements]
     counts = f"{len(elements) - refused} explained, {refused} refused; {packets} packets"
     others = len(records) - packets
-    lines.append(f"{len(elements)} connections: {counts}; {others} record{'s' * (others != 1)} of none of them\n")
+    lines.append(f"{len(elements)} connections: {counts}; {others} record{'s' * (others != 1)} of none of these connections\n")
     (HERE / "expected" / "station.audits.txt").write_bytes("".join(lines).encode())
 
 
@@ -1199,7 +1201,7 @@ What was judged:
   records read: {records}
   window: records 4 to 22
   packets of the connection: {packets}
-{channels}  packets of the recorded channels before the window: {before}, behind it: {behind}
+{channels}{ending}  packets of the recorded channels before the window: {before}, behind it: {behind}
   records passed over: {foreign}
     not IPv4 or UDP: {not_udp}
     other addresses or ports: {elsewhere}
@@ -1242,9 +1244,31 @@ def channel_line(packets, channel):
     return "    on channel {}, {}: from the client {}, from the server {}\n".format(channel, ends, *counts)
 
 
+def first_copies(packets):
+    """The packets that repeat no earlier one on another channel."""
+    seen, found = set(), []
+    for packet in packets:
+        pdu = packet[2]
+        if (pdu.side, pdu.number) not in seen:
+            seen.add((pdu.side, pdu.number))
+            found.append(packet)
+    return found
+
+
+def ending_lines(packets):
+    """The disconnection request that crossed first, and what crossed behind it."""
+    place, packet = next((place, each) for place, each in enumerate(packets) if each[2].kind == DISCONNECTION_REQUEST)
+    detail, reason = packet[2].body
+    line = f"  end of the connection: disconnection request of the {packet[2].side}, reason {reason}, detail {detail}, "
+    behind = packets[place + 1 :]
+    further = len(first_copies(packets)) - len(first_copies(packets[: place + 1]))
+    told = f"    behind it: new PDUs {further}, late copies of earlier ones, by their numbers, {len(behind) - further}\n"
+    return line + sighting(packet) + "\n" + (told if behind else "")
+
+
 def silence_line(packets, side):
-    """The longest time between two packets of a side, where a record comes every 5 milliseconds."""
-    records = [record for record, _, pdu in packets if pdu.side == side]
+    """The longest time between two new PDUs of a side, where a record comes every 5 milliseconds."""
+    records = [record for record, _, pdu in first_copies(packets) if pdu.side == side]
     pairs = list(zip(records, records[1:]))
     first, second = max(pairs, key=lambda pair: pair[1] - pair[0])
     return f"  longest silence of the {side}: {5 * (second - first)}.000000 ms, between records {first} and {second}\n"
@@ -1286,6 +1310,7 @@ def write_excerpt_text():
         records=len(records),
         packets=len(packets),
         channels="".join(channel_line(packets, channel) for channel in (1, 2)),
+        ending=ending_lines(packets),
         before=sum(record < window.start for record, _, _ in every),
         behind=sum(record >= window.stop for record, _, _ in every),
         foreign=len(others),
@@ -1319,7 +1344,7 @@ what is wrong with it:
   redundancy number found: 12
   SN due: 104
   SN found: 105
-  the end's last number before it: 10, SN 103, first in record 5, 2026-01-01 00:00:00.020000 UTC, channel 1
+  the end's last number before it: 10, SN 103, first copy in record 5, 2026-01-01 00:00:00.020000 UTC, channel 1
   11 doesn't cross later in the window
   both numbers skip 1, as where so many whole PDUs never reached the tap or were cut from the file
   the capture has the opening of the connection
@@ -1328,14 +1353,19 @@ may be the cause:
   the tap missed whole PDUs, or they were cut from the file
 look next at:
   the packets of this end around the missing number, with seatmelon show; if the tap may have missed
-  PDUs, what --suppose N says; up to the gap the capture can be explained with last_record, and
-  behind it from a quiet point, of which seatmelon draft CAPTURE N --after RECORD PARAMS proposes
-  some
+  PDUs, what --suppose N says; behind the gap the capture can be explained from a quiet point, of
+  which seatmelon draft CAPTURE N --after RECORD PARAMS proposes some
+up to there:
+  the 6 packets before it are explained by themselves:
+    client to server: 0 of 3 messages surely taken
+    server to client: 0 of 0 messages surely taken
+    with last_record = 6 in the parameters, that is told whole
 
 {shown}
 explained with 1 supposed PDU, as a hypothesis: if the tap missed what follows, the rules can explain all packets
   from the client, redundancy number 11, SN 104, just before record 7, 2026-01-01 00:00:00.030000 UTC, channel 1
-    6213, retransmission response: CS 501, TS 1020, CTS 9020
+    types that fit: 1 of 3 that were tried
+    6213, retransmission response, for example CS 501, TS 1020, CTS 9020
 client to server: 5 of 5 captured messages surely taken under this filling, and under this alone
 server to client: 0 of 0 captured messages surely taken under this filling, and under this alone
 
@@ -1379,7 +1409,7 @@ the client's PDU in record 1, 2026-01-01 00:00:00.000000 UTC, channel 1
   CTS: 9000
   message: hex ab01, text \\xab\\x01
   message: empty
-the rule that refuses it, found by a walk beside the verdict and no part of it:
+the rule that it breaks, found by a second pass, on which the verdict doesn't rest:
   CS 500 is the SN of no PDU of the server in the window
 
 may be the cause:
@@ -1404,7 +1434,7 @@ JUDGED = """\
   records read: {packets}
   packets of the connection: {packets}
     on channel 1, 10.0.0.1:5000 - 10.0.0.2:5000: from the client {client}, from the server {server}
-  records passed over: 0
+{ending}  records passed over: 0
   ids: client 96, server 97
   lengths: safety code 16, check code 4
   start words: 0f1e2d3c4b5a69788796a5b4c3d2e1f0
@@ -1458,7 +1488,8 @@ def write_text_of(name, kind, text, pdus, messages):
     """What a form of `explain` prints of a capture of these PDUs and its parameters, which have been written."""
     sums = {"capture": sum_lines("capture", f"{name}.pcap"), "parameters": sum_lines("parameters", f"{name}.toml")}
     counts = {side: sum(pdu.side == side for pdu in pdus) for side in ("client", "server")}
-    judged = JUDGED.format(packets=len(pdus), **counts, **sums)
+    ending = ending_lines([(record, 1, pdu) for record, pdu in enumerate(pdus, 1)])
+    judged = JUDGED.format(packets=len(pdus), ending=ending, **counts, **sums)
     told = text.format(shown=SHOWN, judged=judged, messages=messages)
     (HERE / "expected" / f"{name}.{kind}.txt").write_bytes(told.encode())
 

@@ -326,7 +326,7 @@ def all_connections(day):
     status, text, error = day.call("audit", capture, folder)
     lines = text.splitlines()
     refused = [line for line in lines if ": refused by 28 NumberGap, record " in line]
-    counts = f"40 connections: 39 explained, 1 refused; {len(frames)} packets; 100 records of none of them"
+    counts = f"40 connections: 39 explained, 1 refused; {len(frames)} packets; 100 records of none of these connections"
     day.expect("one is refused", status == 1 and len(refused) == 1 and lines[-1] == counts, (status, lines[-1:], error))
     answer = day.call("explain", capture, refused[0].split(":")[0], "--summary")
     day.expect("why it is", answer[0] == 1 and "both numbers skip 1" in answer[1], answer)
@@ -356,7 +356,7 @@ def mistakes(day):
     answer = day.call("explain", capture, day.path("exchanged.toml"))
     day.expect("exchanged ends", answer[0] == 1 and "are client and server exchanged" in answer[1], answer)
     answer = day.call("explain", day.path("exchanged.toml"), capture)
-    day.expect("exchanged files", answer[0] == 2 and "swapped" in answer[2], answer)
+    day.expect("exchanged files", answer[0] == 2 and "a parameter file is wanted" in answer[2], answer)
 
 
 def main():

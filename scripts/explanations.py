@@ -6,6 +6,7 @@
 The parts (all of them, if none is named):
 
     samples    surveys, drafts and explains each sample, as text and as JSON
+    surveys    the JSON of the survey of each sample, and of the sample station, beside its text
     files      a pipe, standard input, a directory, a missing file, gzip, pcapng, a text, and swapped arguments
     many       audits of all connections, from files, folders and pipes, and drafts of all
     limits     one PDU more than can be judged, and one entry more
@@ -138,6 +139,101 @@ def samples(part):
         whole_text(part, capture)
 
 
+# ---- surveys
+
+
+def numbers_told(data, name):
+    """The lines that tell what the numbers of an end show."""
+    if data["gaps"]:
+        first = data["first_gap"]
+        yield (f"{name}'s gaps: {data['gaps']}, numbers missing: {data['missing']}, "
+               f"the first: {first['number']} at record {first['record']}")
+    counts = {
+        "numbers that came late": data["late"],
+        "copies": data["copies"],
+        "copies that differ": data["differing_copies"],
+        "numbers too old to be compared": data["too_old"],
+    }
+    yield from (f"{name}'s {what}: {count}" for what, count in counts.items() if count)
+
+
+def ends_told(ends):
+    for end in ends:
+        offer = f", version {end['version']}, N_sendmax {end['n_sendmax']}" if end["version"] else ""
+        yield f"{end['name']} id {end['id']}{offer}"
+
+
+def extent_told(data):
+    yield f"records {data['first_record']} to {data['last_record']}"
+    if data["first_time"] and data["last_time"]:
+        yield f"captured from {data['first_time'].removesuffix(' UTC')} to {data['last_time']}"
+    if data["opened_before"]:
+        yield "opened before the capture began"
+    elif data["opened_at"] is None:
+        yield "no opening was captured"
+    else:
+        yield f"opened by the client at record {data['opened_at']}"
+    for end in data["ends"]:
+        if end["ended"]:
+            yield f"ended by the {end['name']} at record {end['ended']['record']}, reason {end['ended']['reason']}"
+    if not any(end["ended"] for end in data["ends"]):
+        yield "no disconnection request was captured"
+    late = data["late_copies"]
+    if late:
+        yield (f"late copies of its opening and of what came behind it: {late['count']}, "
+               f"the first in record {late['first_record']}, the last in record {late['last_record']}")
+
+
+def channels_told(data):
+    first, second = (end["name"] for end in data["ends"])
+    for channel in data["channels"]:
+        yield (f"channel {channel['channel']}: {' - '.join(channel['ends'])}, packets to the {second}: "
+               f"{channel['from_first']}, to the {first}: {channel['from_second']}")
+    if data["packets_on_further_channels"]:
+        yield f"packets on further channels: {data['packets_on_further_channels']}"
+
+
+def lengths_told(data):
+    for code in ("safety", "check"):
+        for it in data[f"{code}_code"]:
+            if it["fits"]:
+                yield f"a {code} code of {it['length']} bytes fits the length of {it['fits']} of {data['packets']} packets"
+                if "start_words_fit" in it:
+                    yield f"  MD4's own start words fit {it['start_words_fit']} of these"
+
+
+def connection_told(data):
+    """The lines of a connection's block, from its object."""
+    yield from ends_told(data["ends"])
+    yield from extent_told(data)
+    yield from channels_told(data)
+    yield from lengths_told(data)
+    for end in data["ends"]:
+        yield from (f"{end['name']} sent {it['type']}: {it['count']}" for it in end["sent"])
+        yield from numbers_told(end, end["name"])
+
+
+def survey_told(data):
+    """The text of a survey without cut datagrams and faults, from its object."""
+    lines = [
+        f"records: {data['records']}",
+        f"packets of RaSTA: {data['packets']}",
+        f"other records, passed over: {data['passed_over']}",
+    ]
+    for connection in data["connections"]:
+        lines += ["", f"connection {connection['connection']}"]
+        lines += [f"  {line}" for line in connection_told(connection)]
+    return "".join(f"{line}\n" for line in lines)
+
+
+def surveys(part):
+    for capture in sorted(SAMPLES.glob("*.pcap")) + [STATION / "station.pcap"]:
+        text = part.call("survey", capture)
+        data = part.call("survey", "--json", capture)
+        is_same = data[0] == text[0] and data[2] == "" and survey_told(json.loads(data[1])) == text[1]
+        part.judge(f"survey as JSON, {capture.stem}", is_same, text + data)
+
+
 # ---- files
 
 
@@ -189,7 +285,7 @@ def files(part):
         part.expect(f"{command}, pcapng", 1, "a section header tells no byte order", "", command, newer, *more)
     part.expect("explain, parameters missing", 3, "", str(missing), "explain", capture, missing)
     part.expect("explain, certificate missing", 3, "", str(missing), "explain", capture, parameters, missing)
-    part.expect("explain, swapped", 2, "", "swapped", "explain", parameters, capture)
+    part.expect("explain, swapped", 2, "", "a parameter file is wanted", "explain", parameters, capture)
     part.expect("no command", 2, "", "Usage", )
     part.expect("unknown command", 2, "", "explain", "explian", capture, parameters)
     part.expect("no such record", 2, "", "there is no record 99", "explain", capture, parameters, "--without", "99")
@@ -202,6 +298,31 @@ def files(part):
 # ---- many connections
 
 STATION = SAMPLES / "station"
+
+
+def counted(count, one, many):
+    return f"{count} {one if count == 1 else many}"
+
+
+def before_told(connection):
+    """What the line of a refused connection says of the packets before the refused one."""
+    before = connection["before_fault"]
+    if before is None:
+        return ""
+    told = counted(before["packets"], "packet before it is explained", "packets before it are explained")
+    return f"; the {told}" if before["verdict"] == "explained" else None
+
+
+def shown_told(connection):
+    """What it says of what the packets show alone."""
+    shown = connection["from_the_middle"]
+    if shown is None:
+        return ""
+    client, server = shown["client"], shown["server"]
+    first = "" if shown["all_fit"] else "the first "
+    told = f"; client to server: {client['surely_taken']} of {client['captured']} captured messages surely taken"
+    told += f"; server to client: {server['surely_taken']} of {server['captured']}"
+    return told + f", by {first}{counted(shown['packets'], 'packet', 'packets')}, whatever was missed"
 
 
 def same_told(text, data):
@@ -217,11 +338,7 @@ def same_told(text, data):
         elif connection["verdict"] == "refused":
             fault = connection["fault"]
             told += f"refused by {fault['number']} {fault['name']}, record {connection['record']}, {connection['time']}"
-            told += f", {connection['end']}"
-            if connection["from_the_middle"]:
-                client, server = (connection["from_the_middle"][side] for side in ("client", "server"))
-                told += f"; client to server: {client['surely_taken']} of {client['captured']} captured messages surely taken"
-                told += f"; server to client: {server['surely_taken']} of {server['captured']}, whatever was missed"
+            told += f", {connection['end']}" + before_told(connection) + shown_told(connection)
         else:
             told += connection["verdict"].replace("_", " ")
         right = right and line == told
@@ -241,10 +358,10 @@ def audits_of_the_sample(part):
     part.judge("audit, JSON", answer[0] == 1 and same_told(stored, json.loads(answer[1])), answer)
     lines = stored.splitlines(True)
     answer = part.call("audit", "station/station.pcap", names[1], names[0], names[1], cwd=SAMPLES)
-    told = lines[1] + lines[0] + lines[1] + "3 connections: 3 explained; 29 packets; 12 records of none of them\n"
+    told = lines[1] + lines[0] + lines[1] + "3 connections: 3 explained; 29 packets; 12 records of none of these connections\n"
     part.judge("audit, a file twice", answer == (0, told, ""), answer)
     answer = part.call("audit", "handshake.pcap", names[0], cwd=SAMPLES)
-    told = f"{names[0]}: no packets\n1 connection: 1 without packets; 0 packets; 3 records of none of them\n"
+    told = f"{names[0]}: no packets\n1 connection: 1 without packets; 0 packets; 3 records of none of these connections\n"
     part.judge("audit, no packets", answer == (1, told, ""), answer)
 
 
@@ -252,7 +369,7 @@ def audits_of_a_cut_capture(part):
     cut = part.folder / "cut.pcap"
     cut.write_bytes((STATION / "station.pcap").read_bytes()[:-1])
     answer = part.call("audit", cut, STATION)
-    is_told = answer[1].count(", record 41\n") == 2 and "the file ends inside record 41 (14 CutRecord)\n" in answer[1]
+    is_told = answer[1].count(": cut at 14 CutRecord, record 41; the ") == 2 and "the file ends inside record 41 (14 CutRecord)\n" in answer[1]
     part.judge("audit, cut", answer[0] == 1 and is_told and "refused by 28 NumberGap, record 21" in answer[1], answer)
 
 
@@ -353,7 +470,7 @@ def limits(part):
     part.expect("one entry more", 1, TOO_MANY_ENTRIES + ADVICE, "", "explain", capture, parameters, certificate)
 
 
-PARTS = (samples, files, many, limits)
+PARTS = (samples, surveys, files, many, limits)
 
 
 def try_part(run, program):

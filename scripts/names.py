@@ -30,7 +30,7 @@ OF_TESTS = re.compile(r"(%s)(?: there)? of `(trials_\w+)`" % LIST)
 
 # What is named without being there: options of pcapng files, and files that a reader is to have.
 ELSEWHERE = {"if_tsresol", "if_tsoffset"}
-READERS_FILES = {"src/m.rt", "drafts/connection-001.toml", "connection-001.toml", "x.pcapng", "x.pcap"}
+READERS_FILES = {"src/m.rt", "drafts/connection-001.toml", "connection-001.toml", "x.pcapng", "x.pcap", "ethernet.pcap"}
 
 # Pages that list what was removed.
 HISTORY = {"docs/GATE.md"}

@@ -59,7 +59,7 @@ fn run<R: AllocGlobal + Clock + Clone + Drop + Env + Eprint + Files + Input + Pr
 ) -> Result<u8, Failure> {
     let words = words(rt)?;
     match parse(rt.alloc(), &words) {
-        Ok(Request::Survey { capture }) => survey_file(rt, capture),
+        Ok(Request::Survey(surveying)) => survey_file(rt, &surveying),
         Ok(Request::Draft(drafting)) => draft_file(rt, &drafting),
         Ok(Request::DraftAll(drafting)) => draft_all(rt, &drafting),
         Ok(Request::Audit(auditing)) => audit_files(rt, &auditing, is_timed),

@@ -1,4 +1,5 @@
 pub mod Differing
+mod Signs
 pub mod SentMessages
 pub mod Told
 pub mod Suppositions

@@ -178,3 +178,15 @@ pub proved_first : (p : Parameters) (packets : List Packet) (units : List ShownU
     → map told_of messages ≡ flat_map (data_told p packets) units → AreFirstTaken (length (filter is_proved messages)) messages
 proved_first p packets units messages first all =
     first_taken messages (subst Falls (sym (ap (map is_told_proved) all) ∙ told_proved messages) (falls p packets units first))
+
+-- ---- the first ones of them
+
+in_front : (units : List ShownUnit) (n i : ℕ) (u : ShownUnit) → slice_get (take n units) i ≡ Some u → slice_get units i ≡ Some u
+in_front [] zero i u e = e
+in_front [] (suc n) i u e = e
+in_front (x ∷ units) zero i u e = absurd (cc)
+in_front (x ∷ units) (suc n) zero u e = e
+in_front (x ∷ units) (suc n) (suc i) u e = in_front units n i u e
+
+pub front_first : (units : List ShownUnit) (n : ℕ) → HaveProofsFirst units → HaveProofsFirst (take n units)
+front_first units n first i j u later below a b some = first i j u later below (in_front units n i u a) (in_front units n j later b) some

@@ -1,5 +1,5 @@
 -- What an account tells of what was read.
-use Rattle.std.specs.Prelude.{◌≡◌, ◌↔◌, ◌<◌, ℕ, List, [], ◌∷◌, length, take, filter, nat_lt, Option, None, Some, IfSome}
+use Rattle.std.specs.Prelude.{◌≡◌, ◌↔◌, ◌<◌, ◌&&◌, ℕ, Bool, List, length, take, filter, nat_lt, Option, None, Some, IfSome}
 use Rattle.std.specs.Prelude.{IsSome, is_some, option_map, unwrap_or}
 use Rattle.sha2.specs.Sha256.{sha256}
 use Rattle.rasta_pcap.specs.declared.fault.Side.TheVariants.{Client, Server}
@@ -7,16 +7,16 @@ use Rattle.rasta_pdu.specs.Params.{Parameters}
 use Rattle.rasta_check.specs.Capture.Crossing.{Crossing}
 use Rattle.rasta_check.specs.Verdict.Report as reports
 use Rattle.rasta_verdict.specs.Given.{IsExplainedBy, IsRefusedBy}
+use Rattle.seatmelon_middle.specs.Packets.{opens_first}
 use Rattle.seatmelon_reading.specs.declared.capture_refusal.CaptureRefusal.{CaptureRefusal}
-use Rattle.seatmelon_reading.specs.declared.notes.Sighting.{Sighting}
 use Rattle.seatmelon_reading.specs.declared.reading.Reading.{Reading}
-use Rattle.seatmelon_reading.specs.declared.silence.Silence.{Silence}
-use Rattle.seatmelon_reading.specs.Silences.{IsLongestSilence, is_untimed}
+use Rattle.seatmelon_reading.specs.Silences.{is_untimed}
 use Rattle.seatmelon_reading.specs.Window as windows
 use Rattle.seatmelon_reading.specs.Window.{IsBounded}
 use Rattle.seatmelon_account.specs.Hypotheses.{IsHypothesis}
+use Rattle.seatmelon_account.specs.Lives.{AreSilences, lives_of}
 use Rattle.seatmelon_account.specs.Messages.{IsDirection}
-use Rattle.seatmelon_account.specs.Middle.{IsFromMiddle, tells_middle}
+use Rattle.seatmelon_account.specs.Middle.{IsFromMiddle, packets_in, tells_middle}
 use Rattle.seatmelon_account.specs.Offers.{AreOffers}
 use Rattle.seatmelon_account.specs.Refusals.{TellsPlace, TellsRecord}
 use Rattle.seatmelon_account.specs.Starts.{start_in}
@@ -63,11 +63,9 @@ sum_of file = file.sum
 abbrev pub most_in : Inputs → ℕ
 most_in i = unwrap_or i.suppose 0
 
--- the longest silence of the client, and that of the server
-abbrev pub AreSilences : List Sighting → List (Option Silence) → Type 0
-AreSilences packets (client ∷ server ∷ []) = IsLongestSilence packets Client client
-    × IsLongestSilence packets Server server
-AreSilences packets other = ⊥
+-- the capture is refused, and packets crossed before the refused one
+abbrev pub is_refused_behind_some : Reading → Bool
+is_refused_behind_some r = is_some r.refusal && nat_lt 0 (length r.store.packets)
 
 -- this is told of what was read
 pub record IsAccount (i : Inputs) (r : Reading) (a : Account) : Type 0 where
@@ -89,9 +87,13 @@ pub record IsAccount (i : Inputs) (r : Reading) (a : Account) : Type 0 where
   pub passed : a.passed ≡ r.notes.passed
   pub times : a.times ≡ r.notes.times
   pub untimed : a.untimed ≡ length (filter is_untimed r.notes.packets.items)
-  pub silences : AreSilences r.notes.packets.items a.silences
+  pub silences : AreSilences r a.silences
+  pub opens : a.opens ≡ opens_first r.store.params (packets_in r)
+  pub course : a.course ≡ (lives_of r).course
   pub offers : AreOffers i.params.now.n_sendmax r.store a.offers
   pub verdict : IsToldOf i.params.now r.store r.notes.before r.refusal (text_in i) a.verdict
+  pub before_fault : IfSome a.before_fault (IsToldOf i.params.now r.store r.notes.before None None)
+  pub told_before : is_some a.before_fault ≡ is_refused_behind_some r
   pub middle : IfSome a.middle (IsFromMiddle r)
   pub told_middle : is_some a.middle ≡ tells_middle r a.verdict
   pub hypothesis : IfSome a.hypothesis (IsHypothesis i.params.now r.notes (most_in i))

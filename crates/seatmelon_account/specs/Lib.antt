@@ -7,6 +7,7 @@ pub mod Hypotheses
 pub mod Layouts
 pub mod Messages
 pub mod Middle
+pub mod Lives
 pub mod Offers
 pub mod Refusals
 pub mod Rules

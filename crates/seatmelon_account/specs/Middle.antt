@@ -1,5 +1,6 @@
 -- What is told of the packets of a window alone: what was surely taken by them, whatever else crossed.
-use Rattle.std.specs.Prelude.{◌≡◌, ℕ, ◌<◌, ◌++◌, Bool, false, List, [], map, filter, flat_map, length, slice_get, nat_lt}
+use Rattle.std.specs.Prelude.{◌≡◌, ℕ, ◌+◌, ◌<◌, ◌++◌, Bool, false, List, [], map, filter, flat_map, length, take, drop}
+use Rattle.std.specs.Prelude.{slice_get, nat_lt}
 use Rattle.std.specs.Prelude.{Option, None, Some, IsSome, is_some}
 use Rattle.rasta_pcap.specs.declared.fault.Side.{Side}
 use Rattle.rasta_pcap.specs.declared.fault.Side.TheVariants.{Client, Server}
@@ -11,6 +12,7 @@ use Rattle.rasta_check.specs.Middle.ShownLists.{AreListsOf}
 use Rattle.rasta_check.specs.declared.resent.ResentUnit.{ResentUnit}
 use Rattle.rasta_check.specs.declared.shown.ShownLists.{ShownLists}
 use Rattle.rasta_check.specs.declared.sights.ShownUnit.{ShownUnit}
+use Rattle.seatmelon_middle.specs.Counts.{counts_in, is_taken, messages_captured}
 use Rattle.seatmelon_middle.specs.Packets.{pdu_there}
 use Rattle.seatmelon_middle.specs.Told.{tells_by}
 use Rattle.seatmelon_reading.specs.Tapes.{NumberedPacket, taped_in}
@@ -72,6 +74,17 @@ pub record AreToldSo (told : List Told) (messages : List Message) : Type 0 where
   pub all : map told_of messages ≡ told
   pub numbered : AreNumbered messages
 
+-- how many data of an end are told one by one: those with a proof, and as many more
+abbrev pub told_count : List ShownUnit → ℕ
+told_count units = length (filter is_taken units) + 65536
+
+-- the data whose messages are told one by one, and the others
+abbrev pub told_units : List ShownUnit → List ShownUnit
+told_units units = take (told_count units) units
+
+abbrev pub left_out_units : List ShownUnit → List ShownUnit
+left_out_units units = drop (told_count units) units
+
 abbrev pub is_proved : Message → Bool
 is_proved m = is_some m.proof
 
@@ -80,7 +93,7 @@ is_proved m = is_some m.proof
 pub record IsShownDirection (sender : Side) (p : Parameters) (packets : List Packet) (units : List ShownUnit)
     (d : Direction) : Type 0 where
   pub end : d.sender ≡ sender
-  pub messages : AreToldSo (flat_map (data_told p packets) units) d.messages.items
+  pub messages : AreToldSo (flat_map (data_told p packets) (told_units units)) d.messages.items
   pub taken : d.taken ≡ length (filter is_proved d.messages.items)
   pub first : AreFirstTaken d.taken d.messages.items
 
@@ -94,8 +107,11 @@ pub record IsFromMiddle (r : Reading) (m : FromMiddle) : Type 0 where
   pub packets : m.packets ≡ lists.packets
   pub opening : m.before_opening ≡ opens (pdu_there r.store.params (packets_in r) lists.packets)
   pub has_code : m.has_code ≡ nat_lt 0 r.store.params.code_length
+  pub counts : m.counts ≡ counts_in lists
   pub client : IsShownDirection Client r.store.params (packets_in r) lists.client.items m.client
   pub server : IsShownDirection Server r.store.params (packets_in r) lists.server.items m.server
+  pub client_left_out : m.client_left_out ≡ messages_captured (left_out_units lists.client.items)
+  pub server_left_out : m.server_left_out ≡ messages_captured (left_out_units lists.server.items)
   pub client_resent : AreToldSo (flat_map (resent_told r.store.params (packets_in r)) lists.client_resent.items)
       m.client_resent.items
   pub server_resent : AreToldSo (flat_map (resent_told r.store.params (packets_in r)) lists.server_resent.items)

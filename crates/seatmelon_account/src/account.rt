@@ -1,5 +1,5 @@
 //! What is told of a capture.
-ghost use Rattle.std.specs.Prelude.{◌≡◌, ◌<◌, ◌^◌, ℕ, nat_lt, take, None, length, is_some, option_map, IfErr, IfOk, IfSome};
+ghost use Rattle.std.specs.Prelude.{◌≡◌, ◌<◌, ◌^◌, ℕ, List, Option, nat_lt, take, None, length, is_some, option_map, IfErr, IfOk, IfSome};
 ghost use Rattle.sha2.specs.Sha256.{sha256};
 ghost use Rattle.rasta_pcap.specs.Fault.{no_memory};
 ghost use Rattle.rasta_verdict.specs.declared.verdict.Verdict.TheVariants as verdicts;
@@ -7,7 +7,7 @@ ghost use Rattle.rasta_verdict.specs.Given.{IsUnscripted, IsVerdictOn};
 ghost use Rattle.seatmelon_reading.specs.PassedOver.{total_of};
 ghost use Rattle.rasta_pcap.specs.declared.fault.Side.TheVariants.{Client, Server};
 ghost use Rattle.seatmelon_account.specs.Hypotheses.{IsHypothesis, IsSupposed, supposition_in};
-ghost use Rattle.seatmelon_account.specs.Account.{AreSilences, IsAccount, IsToldOf, most_in, text_in};
+ghost use Rattle.seatmelon_account.specs.Account.{IsAccount, IsToldOf, is_refused_behind_some, most_in, text_in};
 ghost use Rattle.seatmelon_account.specs.Messages.{IsDirection};
 ghost use Rattle.seatmelon_account.specs.Refusals.{TellsPlace};
 ghost use Rattle.seatmelon_account.specs.Starts.{start_in};
@@ -15,8 +15,9 @@ ghost use Rattle.seatmelon_account.specs.Starts.{start_in};
 use crate::crossed::list_of;
 use crate::explained::{Explained, start_of};
 use crate::hypothesis::{Hypothesis, hypothesis_of};
+use crate::lives::{EndSilences, watch_of};
 use crate::messages::direction_of;
-use crate::middle::{FromMiddle, middle_of};
+use crate::middle::{FromMiddle, middle_of, opens_first};
 use crate::offers::{Offers, offers_in};
 use crate::refusal::{Refusal, capture_refusal, scripts_refusal, text_refusal, unfound};
 use rasta_check::Store;
@@ -24,10 +25,10 @@ use rasta_pcap::{Fault, Side};
 use rasta_pdu::Params;
 use rasta_verdict::judge_by;
 use seatmelon_capture::FileHeader;
+use seatmelon_middle::Course;
 use seatmelon_pcapng::Format;
 use seatmelon_reading::{
-    ChannelCount, PassedOver, Reading, Sighting, Silence, TimeNotes, Window, count_untimed,
-    longest_silence, window_in,
+    ChannelCount, PassedOver, Reading, Sighting, TimeNotes, Window, count_untimed, window_in,
 };
 use seatmelon_suppose::Supposition;
 use sha2::{Digest, Sha256};
@@ -126,13 +127,22 @@ pub struct Account<'a> {
     /// How many packets of the connection have no time of capture, as a pcapng file may have them.
     pub untimed: u64,
 
-    /// The longest silence of the client and of the server in the window; none of an end that sent fewer than two packets.
-    pub silences: [Option<Silence>; 2],
+    /// How long the client, and how long the server gave no sign of life in the window.
+    pub silences: [EndSilences; 2],
+
+    /// Whether the first packet of the window opens the connection; none where there is no packet.
+    pub opens: Option<bool>,
+
+    /// How the connection goes on, and how it ends, by the packets of the window.
+    pub course: Course,
 
     /// What the ends offer at the opening.
     pub offers: Offers,
 
     pub verdict: Verdict<'a>,
+
+    /// What becomes of the packets before the refused one, judged alone, where the capture is refused behind some.
+    pub before_fault: Option<Verdict<'a>>,
 
     /// What was surely taken by the packets of the window alone, where numbers have a gap, no run explains them, or
     /// neither opening nor quiet point is there.
@@ -183,14 +193,14 @@ fn unscripted<'a>(
 #[tactic(auto, using(crate::proofs::Told::client_first, crate::proofs::Told::server_first))]
 fn explained<'a>(
     alloc: Global,
-    inputs: &Inputs<'a>,
+    params: &Params,
     reading: &'a Reading,
     explanation: &rasta_verdict::Explanation<'a>,
 ) -> Result<Explained<'a>, Fault>
-    requires { IsVerdictOn reading.now.store (text_in inputs.now) (verdicts.Explained explanation.now) }
+    requires { (text : Option (List ℕ)) × IsVerdictOn reading.now.store text (verdicts.Explained explanation.now) }
     ensures packets { IfOk result (λ e. e.packets ≡ explanation.now.report.packets) }
-    ensures has_code { IfOk result (λ e. e.has_code ≡ nat_lt 0 inputs.now.params.now.code_length) }
-    ensures start { IfOk result (λ e. e.start ≡ start_in inputs.now.params.now reading.now.notes.before) }
+    ensures has_code { IfOk result (λ e. e.has_code ≡ nat_lt 0 params.now.code_length) }
+    ensures start { IfOk result (λ e. e.start ≡ start_in params.now reading.now.notes.before) }
     ensures client { IfOk result (λ e. IsDirection Client reading.now.store.client explanation.now.report.server_taken e.client) }
     ensures server { IfOk result (λ e. IsDirection Server reading.now.store.server explanation.now.report.client_taken e.server) }
     ensures err { IfErr result (λ f. f ≡ no_memory) }
@@ -200,36 +210,35 @@ fn explained<'a>(
     let (client, server) = (list_of(store, Side::Client), list_of(store, Side::Server));
     Ok(Explained {
         packets: report.packets,
-        has_code: inputs.params.code_length() > 0,
-        start: start_of(inputs.params, &reading.notes),
+        has_code: params.code_length() > 0,
+        start: start_of(params, &reading.notes),
         client: direction_of(alloc, Side::Client, &client, report.server_taken.as_slice())?,
         server: direction_of(alloc, Side::Server, &server, report.client_taken.as_slice())?,
     })
 }
 
-// The verdict on what crossed.
+// The verdict on what crossed, by a certificate, if one is given.
 fn judged<'a>(
     alloc: Global,
-    inputs: &Inputs<'a>,
+    params: &Params,
+    certificate: Option<&[u8]>,
     reading: &'a Reading,
 ) -> Result<Verdict<'a>, Fault>
     requires { 0 < length reading.now.store.packets }
-    ensures told { IfOk result (IsToldOf inputs.now.params.now reading.now.store reading.now.notes.before None (text_in inputs.now)) }
+    ensures told { IfOk result (IsToldOf params.now reading.now.store reading.now.notes.before None (option_map (λ text. text.now) certificate.entry)) }
     ensures err { IfErr result (λ f. f ≡ no_memory) }
 {
     let store = &reading.store;
-    match judge_by(alloc, store, inputs.texts.certificate)? {
-        rasta_verdict::Verdict::Explained(explanation) => Ok(Verdict::Explained(explained(
-            alloc,
-            inputs,
-            reading,
-            &explanation,
-        )?)),
+    match judge_by(alloc, store, certificate)? {
+        rasta_verdict::Verdict::Explained(explanation) => {
+            let told = explained(alloc, params, reading, &explanation)?;
+            Ok(Verdict::Explained(told))
+        }
         rasta_verdict::Verdict::Refused(fault, certificate) => {
             Ok(Verdict::Refused(scripts_refusal(store, fault, &certificate)))
         }
         rasta_verdict::Verdict::Unscripted(fault) => {
-            let refusal = unscripted(alloc, store, inputs.texts.certificate, fault)?;
+            let refusal = unscripted(alloc, store, certificate, fault)?;
             Ok(Verdict::Refused(refusal))
         }
     }
@@ -249,18 +258,25 @@ fn verdict_on<'a>(
     match &reading.refusal {
         Some(refusal) => Ok(Verdict::Refused(capture_refusal(inputs.params, store, refusal))),
         None if store.len() == 0 => Ok(Verdict::NoPackets),
-        None => judged(alloc, inputs, reading),
+        None => judged(alloc, inputs.params, inputs.texts.certificate, reading),
     }
 }
 
-// The longest silence of each end.
-fn silences_in(packets: &[Sighting]) -> [Option<Silence>; 2]
-    ensures { AreSilences packets.now result }
+// What becomes of the packets before the refused one, judged alone, where the capture is refused behind some.
+fn before_fault<'a>(
+    alloc: Global,
+    params: &Params,
+    reading: &'a Reading,
+) -> Result<Option<Verdict<'a>>, Fault>
+    ensures verdict { IfOk result (λ v. IfSome v (IsToldOf params.now reading.now.store reading.now.notes.before None None)) }
+    ensures told { IfOk result (λ v. is_some v ≡ is_refused_behind_some reading.now) }
+    ensures err { IfErr result (λ f. f ≡ no_memory) }
 {
-    [
-        longest_silence(packets, Side::Client),
-        longest_silence(packets, Side::Server),
-    ]
+    if reading.refusal.is_none() || reading.store.len() == 0 {
+        return Ok(None);
+    }
+    let verdict = judged(alloc, params, None, reading)?;
+    Ok(Some(verdict))
 }
 
 // The counts of the recorded channels.
@@ -308,6 +324,7 @@ pub fn account_of<'a>(
     let notes = &reading.notes;
     let name = names.certificate.unwrap_or("-");
     let verdict = verdict_on(alloc, inputs, reading)?;
+    let watch = watch_of(reading);
     Ok(Account {
         capture: File {
             name: names.capture,
@@ -328,10 +345,13 @@ pub fn account_of<'a>(
         passed: notes.passed,
         times: notes.times,
         untimed: count_untimed(notes.packets.as_slice()),
-        silences: silences_in(notes.packets.as_slice()),
+        silences: watch.silences(notes.last),
+        opens: opens_first(reading),
+        course: watch.course(),
         offers: offers_in(inputs.params, &reading.store),
         middle: middle_of(alloc, reading, &verdict)?,
         verdict,
+        before_fault: before_fault(alloc, inputs.params, reading)?,
         hypothesis: hypothesis_in(alloc, inputs.params, reading, supposition)?,
     })
 }

@@ -7,7 +7,8 @@ ghost use Rattle.rasta_pdu.specs.Pdu.{messages_in, value_of};
 ghost use Rattle.rasta_check.specs.Middle.Seen.{IsSeen};
 ghost use Rattle.rasta_check.specs.Middle.ShownLists.{AreListsOf};
 ghost use Rattle.seatmelon_reading.specs.Tapes.{taped_as};
-ghost use Rattle.seatmelon_account.specs.Middle.{AreNumbered, AreToldSo, HaveProofsFirst, IsFromMiddle, IsShownDirection, data_told, is_proved, opens, packet_of_numbered, packets_in, resent_told, tells_middle, told_at, told_of, told_with};
+ghost use Rattle.seatmelon_account.specs.Middle.{AreNumbered, AreToldSo, HaveProofsFirst, IsFromMiddle, IsShownDirection, data_told, is_proved, left_out_units, opens, packet_of_numbered, packets_in, resent_told, tells_middle, told_at, told_of, told_units, told_with};
+ghost use Rattle.seatmelon_middle.specs.Counts.{is_taken, messages_captured};
 ghost use Rattle.seatmelon_middle.specs.Packets.{opens_first, pdu_there};
 
 use crate::account::Verdict;
@@ -15,7 +16,7 @@ use crate::messages::{Direction, Message};
 use rasta_check::{ResentUnit, Shown, ShownLists, ShownUnit, Store};
 use rasta_pcap::{Fault, Side};
 use rasta_pdu::{Datagram, Kind, Params, Pdu, decode};
-use seatmelon_middle::is_told;
+use seatmelon_middle::{ShownCounts, count_captured, is_told};
 use seatmelon_reading::{Reading, Taped};
 use std::alloc::{AllocError, Global};
 
@@ -32,14 +33,25 @@ pub struct FromMiddle<'a> {
     /// Whether packets have a safety code.
     pub has_code: bool,
 
-    /// The messages of captured data of the client, and those of the server, in the order of their SNs.
+    /// How many messages of captured data there are of each end, and how many of them were surely taken.
+    pub counts: ShownCounts,
+
+    /// The messages of captured data of the client, and those of the server, in the order of their SNs: those of data that
+    /// were surely taken, and of the next 65,536 data.
     pub client: Direction<'a>,
     pub server: Direction<'a>,
+
+    /// How many messages of further captured data, none of which is shown to be taken, each of them has.
+    pub client_left_out: u64,
+    pub server_left_out: u64,
 
     /// Those that the client sent again and first sent before all of these, and those of the server.
     pub client_resent: Vec<Message<'a>>,
     pub server_resent: Vec<Message<'a>>,
 }
+
+// The most data of an end whose messages are told one by one without being shown to be taken.
+const MOST_WAITING: usize = 65_536;
 
 // The place of data, and that of their proof, if they have one.
 #[derive(Clone, Copy)]
@@ -190,6 +202,25 @@ fn messages_of<'a>(
     Ok(messages)
 }
 
+// How many data of an end have a proof.
+fn count_taken(units: &[ShownUnit]) -> usize
+    ensures { result ≡ length (filter is_taken units.now) }
+{
+    units
+        .iter()
+        .filter(|unit| unit.proof_place.is_some())
+        .count()
+}
+
+// The data whose messages are told one by one, and the others: behind those with a proof, only so many are.
+fn told_units(units: &[ShownUnit]) -> (&[ShownUnit], &[ShownUnit])
+    ensures told { result.0.now ≡ told_units units.now }
+    ensures left_out { result.1.now ≡ left_out_units units.now }
+{
+    let told = count_taken(units).saturating_add(MOST_WAITING);
+    units.split_at(told.min(units.len()))
+}
+
 // The messages of captured data of an end.
 fn direction<'a>(
     alloc: Global,
@@ -200,12 +231,21 @@ fn direction<'a>(
     requires { HaveProofsFirst units.now }
     ensures { IfOk result (IsShownDirection sender reading.now.store.params (packets_in reading.now) units.now) }
 {
-    let messages = messages_of(alloc, reading, units)?;
+    let (told, _) = told_units(units);
+    let messages = messages_of(alloc, reading, told)?;
     Ok(Direction {
         sender,
         taken: count_proved(&messages) as u64,
         messages,
     })
+}
+
+// How many messages the data of an end have that aren't told one by one.
+fn count_left_out(units: &[ShownUnit]) -> u64
+    ensures { result ≡ messages_captured (left_out_units units.now) }
+{
+    let (_, left_out) = told_units(units);
+    count_captured(left_out)
 }
 
 // The messages of data that were sent again, and first sent before all captured data.
@@ -256,15 +296,18 @@ fn told<'a>(
         packets: lists.packets,
         before_opening: is_opening(pdu_at(reading, lists.packets)),
         has_code: reading.store.params().code_length() > 0,
+        counts: ShownCounts::of(lists),
         client: direction(alloc, reading, Side::Client, &lists.client)?,
         server: direction(alloc, reading, Side::Server, &lists.server)?,
+        client_left_out: count_left_out(&lists.client),
+        server_left_out: count_left_out(&lists.server),
         client_resent: resent(alloc, reading, &lists.client_resent)?,
         server_resent: resent(alloc, reading, &lists.server_resent)?,
     })
 }
 
-// Whether the first packet of the window opens the connection, if there is one.
-fn opens_first(reading: &Reading) -> Option<bool>
+/// Whether the first packet of the window opens the connection, if there is one.
+pub fn opens_first(reading: &Reading) -> Option<bool>
     ensures { result ≡ opens_first reading.now.store.params (packets_in reading.now) }
 {
     if reading.store.len() == 0 && reading.unjudged.packets.is_empty() {

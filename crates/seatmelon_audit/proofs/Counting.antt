@@ -1,5 +1,10 @@
 -- How many messages an end sent.
-use Rattle.std.proofs.Common.{◌≡◌, ◌∙◌, ℕ, zero, suc, ◌+◌, ◌*◌, ◌<◌, ◌≤◌, ◌^◌, List, [], ◌∷◌, length, length-append, cond, drop, slice_get, flat_map, Bool, true, false, Some, ap, refl, sym, subst, zero-add, arith}
+use Rattle.std.proofs.Common.{◌≡◌, ◌∙◌, ℕ, zero, suc, ◌+◌, ◌*◌, ◌<◌, ◌≤◌, ◌^◌, List, [], ◌∷◌, ◌++◌, length, length-append, cond, drop, take, slice_get, flat_map, Bool, true, false, Option, None, Some, ap, refl, sym, subst, zero-add, arith}
+use Rattle.std.proofs.lemmas.List.{take_all}
+use Rattle.std.proofs.lemmas.List.Elements.{filter_map-append}
+use Rattle.std.specs.List.{cons_option}
+use Rattle.std.specs.Option.{option_or}
+use Rattle.std.specs.Prelude.{filter_map}
 use Rattle.rasta_pcap.specs.declared.fault.Side.{Side}
 use Rattle.rasta_udp.specs.Frame.{Packet}
 use Rattle.rasta_pdu.specs.declared.kind.Kind.TheVariants.{Data}
@@ -9,7 +14,10 @@ use Rattle.rasta_pdu.specs.Pdu.{Bye, Empty, Messages, Opening, SafetyBody, is_ki
 use Rattle.rasta_check.specs.Capture.SentLists.{FirstCopy, Sent}
 use Rattle.rasta_check.specs.Capture.Crossing.{Crossing, IsCrossing}
 use Rattle.rasta_check.specs.Model.Taken.{data_copies}
+use Rattle.rasta_check.proofs.Lists.{take_one_more}
 use Rattle.rasta_check.proofs.Verdict.ListSteps.{left_at}
+use Rattle.seatmelon_middle.specs.Course.{disconnection_at, disconnection_in, first_disconnection}
+use Rattle.seatmelon_middle.specs.declared.course.Disconnection.{Disconnection}
 use Rattle.seatmelon_audit.specs.Messages as sent
 use Rattle.seatmelon_audit.specs.Messages.{added_by, messages_sent}
 
@@ -89,3 +97,20 @@ few_client k copies h e = subst (λ l. length (messages_sent l) < 2 ^ 64) (sym e
 
 pub few_server : (k : Crossing) (copies : List FirstCopy) → IsCrossing k → copies ≡ k.server → length (messages_sent copies) < 2 ^ 64
 few_server k copies h e = subst (λ l. length (messages_sent l) < 2 ^ 64) (sym e) (few_by k.params k.packets _ k.server h.sent.server_sent h.sent.few_server)
+
+-- ---- the first disconnection request
+
+get_with : (xs : List Disconnection) (o : Option Disconnection) → slice_get (xs ++ cons_option o []) 0 ≡ option_or (slice_get xs 0) o
+get_with [] None = refl
+get_with [] (Some d) = refl
+get_with (x ∷ xs) o = refl
+
+pub first_more : (side : Side) (copies : List FirstCopy) (i : ℕ) (c : FirstCopy) → slice_get copies i ≡ Some c
+    → first_disconnection side (take (i + 1) copies) ≡ option_or (first_disconnection side (take i copies)) (disconnection_at side c.place c.pdu)
+first_more side copies i c at =
+    ap (first_disconnection side) (sym (take_one_more i copies c at))
+    ∙ ap (λ l. slice_get l 0) (filter_map-append (disconnection_in side) (take i copies) (c ∷ []))
+    ∙ get_with (filter_map (disconnection_in side) (take i copies)) (disconnection_in side c)
+
+pub first_all : (side : Side) (copies : List FirstCopy) (i : ℕ) → length copies ≤ i → first_disconnection side (take i copies) ≡ first_disconnection side copies
+first_all side copies i past = ap (first_disconnection side) (take_all i copies past)

@@ -1,6 +1,7 @@
 -- A connection where the reading of a file ends.
-use Rattle.std.proofs.Common.{◌≡◌, ◌∙◌, ◌⊎◌, inl, inr, suc, ◌<◌, ◌≤◌, List, [], ◌∷◌, length, cond, Bool, true, false, nat_eq, nat_lt, Option, None, Some, Result, ap, refl, sym, subst, arith}
+use Rattle.std.proofs.Common.{◌≡◌, ◌∙◌, ◌⊎◌, inl, inr, suc, ◌-◌, ◌<◌, ◌≤◌, List, [], ◌∷◌, length, cond, Bool, true, false, nat_eq, nat_lt, Option, None, Some, Result, ap, refl, sym, subst, arith}
 use Rattle.std.proofs.lemmas.Bool.Decides.{nat_tests}
+use Rattle.std.proofs.lemmas.List.{take_all}
 use Rattle.std.specs.Option.{option_map}
 use Rattle.std.specs.Prelude.{slice_get}
 use Rattle.rasta_pcap.specs.declared.fault.Fault.{Fault}
@@ -13,7 +14,7 @@ use Rattle.rasta_check.specs.Capture.Reading.{then_crossing, at_end}
 use Rattle.rasta_check.specs.declared.store_builder.StoreBuilder.{StoreBuilder}
 use Rattle.seatmelon_middle.specs.Packets.{opens_first}
 use Rattle.seatmelon_audit.specs.Ends.{EndsBy, IsFaultAfter, crossed_to_end, fault_behind}
-use Rattle.seatmelon_audit.specs.Records.{IsStanding, crossed_by, subject_at, subject_behind, subject_of}
+use Rattle.seatmelon_audit.specs.Records.{IsStanding, crossed_before, crossed_by, span_of, stamps_held, subject_at, subject_behind, subject_of}
 use Rattle.seatmelon_audit.specs.Shown.{IsShowing, packets_held}
 use Rattle.seatmelon_audit.specs.declared.line.Line.{Line}
 use Rattle.seatmelon_audit.specs.declared.line.Refusal.{Refusal}
@@ -46,6 +47,10 @@ module _ (p : Parameters) (records : List Captured) (fault : Fault) (after : IsF
       ap subject_behind at ∙ ap (λ (b : Bool). cond b None (Some (subject_at (suc (length records)) None))) other
       ∙ sym (ap (subject_of records) at ∙ ap (λ (o : Option Captured). Some (subject_at (suc (length records)) (option_map (λ (r : Captured). r.time) o))) (get_past records))
 
+  all_before : IsFaultAfter records fault → crossed_before p records fault ≡ crossed_by p records
+  all_before (inl (at, none)) = let size : length records ≡ 0 = ap length none in ap (crossed_by p) (take_all (fault.place - 1) records (omega (arith, size)))
+  all_before (inr at) = ap (crossed_by p) (take_all (fault.place - 1) records (omega (arith, at)))
+
   -- nothing changes
   stays : (s : Standing) (k : Crossing) (packets : List Stamp) → (s ≡ Reading → p.last_record < fault.place)
       → IsStanding s (crossed_by p records) records p k packets → IsStanding s (crossed_to_end p records (Some fault)) records p k packets
@@ -54,7 +59,7 @@ module _ (p : Parameters) (records : List Captured) (fault : Fault) (after : IsF
         ∙ ap (λ (b : Bool). at_end k (cond b (Some fault) None)) (behind_by after (behind refl)),
     h.1,
   )
-  stays (Refused refusal) k packets behind h = (ap (λ (s : Outcome). then_crossing s (λ (m : Crossing). at_end m (fault_behind p records (Some fault)))) h.0, h.1)
+  stays (Refused refusal) k packets behind h = (ap (λ (s : Outcome). then_crossing s (λ (m : Crossing). at_end m (fault_behind p records (Some fault)))) h.0, h.1, h.2, h.3)
   stays OutOfMemory k packets behind h = tt
 
   refuses : (subject : Option Subject) (k : Crossing) (packets : List Stamp) → fault.place ≤ p.last_record → subject ≡ subject_behind fault.place
@@ -64,6 +69,8 @@ module _ (p : Parameters) (records : List Captured) (fault : Fault) (after : IsF
     ap (λ (s : Outcome). then_crossing s (λ (m : Crossing). at_end m (fault_behind p records (Some fault)))) h.0
         ∙ ap (λ (b : Bool). at_end k (cond b (Some fault) None)) (inside_by after inside),
     names ∙ subject_by after,
+    all_before after ∙ h.0,
+    h.1,
   )
 
 -- the window of a connection has a record
@@ -74,6 +81,7 @@ pub line_stays : (l : Line) (fault : Fault) → (l.standing ≡ Reading → l.pa
 line_stays l fault behind records after h = record {
   standing = stays l.params records fault after (ends_late l) l.standing (crossed_in l.builder) l.packets.items behind h.stands.standing;
   opens = h.opens;
+  span = h.span;
   shown = h.stands.shown;
 }
 
@@ -83,10 +91,10 @@ either Holds s refusal (inl is) refused short = subst Holds (sym is) refused
 either Holds s refusal (inr is) refused short = subst Holds (sym is) short
 
 pub line_refused : (old new : Line) (fault : Fault) (subject : Option Subject) → old.standing ≡ Reading → fault.place ≤ old.params.last_record → subject ≡ subject_behind fault.place
-    → new.params ≡ old.params → new.builder ≡ old.builder → new.packets.items ≡ old.packets.items → new.opens ≡ old.opens
+    → new.params ≡ old.params → new.builder ≡ old.builder → new.packets.items ≡ old.packets.items → new.opens ≡ old.opens → new.span ≡ old.span
     → (new.standing ≡ Refused (record { fault = fault; subject = subject })) ⊎ (new.standing ≡ OutOfMemory)
-    → IsShowing new.standing old.params (crossed_in old.builder).packets new.shown → EndsBy old new fault
-line_refused old new fault subject reading inside names params builder packets opens refused shown records after h =
+    → IsShowing new.standing old.params (crossed_in old.builder) (crossed_in old.builder).packets new.shown new.course → EndsBy old new fault
+line_refused old new fault subject reading inside names params builder packets opens span refused shown records after h =
     let p = old.params in
     let before = subst (λ (s : Standing). IsStanding s (crossed_by p records) records p (crossed_in old.builder) old.packets.items) reading h.stands.standing in record {
       standing = subst (λ (x : Parameters). IsStanding new.standing (crossed_to_end x records (Some fault)) records x (crossed_in new.builder) new.packets.items) (sym params)
@@ -97,6 +105,8 @@ line_refused old new fault subject reading inside names params builder packets o
           (refuses p records fault after (ends_late old) subject (crossed_in old.builder) old.packets.items inside names before)))
           tt);
       opens = opens ∙ h.opens ∙ ap (λ (x : Parameters). opens_first x (packets_held x records)) (sym params);
-      shown = subst (λ (x : Parameters). IsShowing new.standing x (packets_held x records) new.shown) (sym params)
-          (subst (λ (held : List Packet). IsShowing new.standing p held new.shown) (crossed_held p records (crossed_in old.builder) before.0) shown);
+      span = span ∙ h.span ∙ ap (λ (x : Parameters). span_of (stamps_held x records)) (sym params);
+      shown = subst (λ (x : Parameters). IsShowing new.standing x (crossed_in new.builder) (packets_held x records) new.shown new.course) (sym params)
+          (subst (λ (b : StoreBuilder). IsShowing new.standing p (crossed_in b) (packets_held p records) new.shown new.course) (sym builder)
+          (subst (λ (held : List Packet). IsShowing new.standing p (crossed_in old.builder) held new.shown new.course) (crossed_held p records (crossed_in old.builder) before.0) shown));
     }

@@ -6,6 +6,7 @@ mod Ends
 mod Files
 mod Frames
 mod Holding
+mod Judging
 mod Knowing
 mod OnWay
 mod Places

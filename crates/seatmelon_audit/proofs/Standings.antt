@@ -1,10 +1,11 @@
 -- A connection with one record more.
-use Rattle.std.proofs.Common.{◌≡◌, ◌∙◌, ◌⊎◌, inl, inr, ℕ, zero, suc, ◌<◌, ◌≤◌, List, [], ◌∷◌, ◌++◌, length, map, cond, Bool, true, false, ◌&&◌, leb, nat_le, Option, None, Some, Result, Ok, Err, ap, refl, sym, subst, append-nil, arith}
+use Rattle.std.proofs.Common.{◌≡◌, ◌∙◌, ◌⊎◌, inl, inr, ℕ, zero, suc, ◌-◌, ◌<◌, ◌≤◌, List, [], ◌∷◌, ◌++◌, length, map, cond, Bool, true, false, ◌&&◌, leb, nat_le, Option, None, Some, Result, Ok, Err, ap, refl, sym, subst, append-nil, arith}
 use Rattle.std.proofs.lemmas.Bool.{leb-true, leb-false}
 use Rattle.std.proofs.lemmas.Bool.Decides.{nat_tests}
 use Rattle.std.proofs.lemmas.List.{length_push, map-append, take-append-le, take_all}
 use Rattle.std.proofs.lemmas.List.Elements.{filter-append}
-use Rattle.std.specs.Option.{option_map}
+use Rattle.std.specs.List.{last_or}
+use Rattle.std.specs.Option.{option_map, option_or}
 use Rattle.std.specs.Prelude.{filter_map, is_some, option_to_list, slice_get}
 use Rattle.rasta_pcap.specs.declared.fault.Fault.{Fault}
 use Rattle.rasta_pcap.specs.declared.time.CaptureTime.{CaptureTime}
@@ -18,12 +19,14 @@ use Rattle.rasta_check.proofs.Lists.{get_next, slice_get_some}
 use Rattle.rasta_check.specs.declared.shown.Shown.{Shown}
 use Rattle.rasta_check.specs.declared.store_builder.StoreBuilder.{StoreBuilder}
 use Rattle.seatmelon_middle.specs.Packets.{opens_first}
+use Rattle.seatmelon_middle.specs.declared.course.Course.{Course}
 use Rattle.seatmelon_reading.proofs.Told.{record_place}
 use Rattle.rasta_check.specs.Capture.Building.{crossed_in}
 use Rattle.seatmelon_audit.specs.Lines.{IsJudged, IsLine, IsWithin, Passes, Stands, TakesIn}
 use Rattle.seatmelon_audit.specs.declared.line.Line.{Line}
-use Rattle.seatmelon_audit.specs.Records.{IsJudgedSo, IsStanding, crossed_by, holding, holds_packet, stamp_of, stamps_at, subject_at, subject_of}
-use Rattle.seatmelon_audit.specs.Shown.{IsShowing, opens_by, opens_with, packets_held}
+use Rattle.seatmelon_audit.specs.Records.{IsJudgedSo, IsStanding, crossed_before, crossed_by, holding, holds_packet, pushed_at, span_of, span_with, stamp_at, stamp_of, stamps_at, stamps_held, subject_at, subject_of}
+use Rattle.seatmelon_audit.specs.Shown.{IsFollowed, IsShowing, opens_by, opens_with, packets_held}
+use Rattle.seatmelon_audit.specs.declared.line.Span.{Span}
 use Rattle.seatmelon_audit.specs.declared.line.Stamp.{Stamp}
 use Rattle.seatmelon_audit.specs.declared.line.Standing.{Standing}
 use Rattle.seatmelon_audit.specs.declared.line.Standing.TheVariants.{OutOfMemory, Reading, Refused}
@@ -31,6 +34,9 @@ use Rattle.seatmelon_audit.proofs.Showing.{crossed_held, held_inside, held_none,
 
 abbrev Outcome : Type 0
 Outcome = Result Crossing Fault
+
+abbrev ok : Crossing → Outcome
+ok k = Ok k
 
 -- ---- what crosses by one record more
 
@@ -57,6 +63,21 @@ front q (y ∷ xs) (suc i) x e = front q xs i x e
 crossed_none : (p : Parameters) → crossed_by p [] ≡ Ok (nothing_crossed p)
 unfolding after_records
 crossed_none p = ap (λ l. after_records (nothing_crossed p) (map numbered l) None) (take_all p.last_record [] (omega arith))
+
+-- ---- the first and the last of more
+
+last_more : (o : Option Stamp) (stamps : List Stamp) (stamp : Stamp) → last_or o (stamps ++ stamp ∷ []) ≡ Some stamp
+last_more o [] stamp = refl
+last_more o (x ∷ stamps) stamp = last_more (Some x) stamps stamp
+
+first_more : (stamps : List Stamp) (stamp : Stamp) → slice_get (stamps ++ stamp ∷ []) 0 ≡ option_or (slice_get stamps 0) (Some stamp)
+first_more [] stamp = refl
+first_more (x ∷ stamps) stamp = refl
+
+span_more : (stamps : List Stamp) (stamp : Stamp) → span_of (stamps ++ stamp ∷ []) ≡ span_with (span_of stamps) (Some stamp)
+span_more stamps stamp =
+    ap (λ (o : Option Stamp). record { first = o; last = last_or None (stamps ++ stamp ∷ []) }) (first_more stamps stamp)
+    ∙ ap (λ (o : Option Stamp). record { first = option_or (slice_get stamps 0) (Some stamp); last = o }) (last_more None stamps stamp)
 
 module _ (p : Parameters) (records : List Captured) (q : Captured) (next : q.number ≡ suc (length records)) where
   abbrev all : List Captured
@@ -109,6 +130,14 @@ module _ (p : Parameters) (records : List Captured) (q : Captured) (next : q.num
   subject_new : subject_of all (suc (length records)) ≡ Some (subject_at (suc (length records)) (Some q.time))
   subject_new = ap (λ (o : Option Captured). Some (subject_at (suc (length records)) (option_map (λ (r : Captured). r.time) o))) (get_next records (q ∷ []))
 
+  -- ---- what crossed before that record
+
+  before_kept : (f : Fault) → f.place ≤ suc (length records) → crossed_before p all f ≡ crossed_before p records f
+  before_kept f h = ap (crossed_by p) (take-append-le (f.place - 1) records (q ∷ []) (omega (arith, h)))
+
+  before_all : (f : Fault) → suc (length records) ≤ f.place → crossed_before p records f ≡ crossed_by p records
+  before_all f h = ap (crossed_by p) (take_all (f.place - 1) records (omega (arith, h)))
+
   -- ---- how it stands
 
   pub judged_standing : (s : Standing) (k n : Crossing) (old new : List Stamp) (time : Option CaptureTime) → time ≡ Some q.time → q.number ≤ p.last_record
@@ -121,6 +150,8 @@ module _ (p : Parameters) (records : List Captured) (q : Captured) (next : q.num
       let place : refusal.fault.place ≡ suc (length records) = record_place k (numbered q) refusal.fault judged.0 ∙ next in (
         crossed_inside inside ∙ ap (λ (s : Outcome). then_crossing s (λ (m : Crossing). after_record m (numbered q))) h.0 ∙ judged.0,
         judged.1 ∙ ap (λ t. Some (subject_at q.number t)) timed ∙ ap (λ m. Some (subject_at m (Some q.time))) next ∙ sym subject_new ∙ ap (subject_of all) (sym place),
+        before_kept refusal.fault (omega (arith, place)) ∙ before_all refusal.fault (omega (arith, place)) ∙ h.0 ∙ ap ok (sym judged.2),
+        judged.3 q.time timed ∙ ap (λ l. l ++ stamps_at p (numbered q) q.time) h.1 ∙ sym (stamps_inside inside),
       )
   judged_standing OutOfMemory k n old new time timed inside judged h = tt
 
@@ -146,8 +177,12 @@ module _ (p : Parameters) (records : List Captured) (q : Captured) (next : q.num
   pub same_standing : (s : Standing) (k : Crossing) (packets : List Stamp) → (crossed_by p records ≡ Ok k → crossed_by p all ≡ Ok k) → holds_packet p q ≡ false → IsWithin s (length records)
       → IsStanding s (crossed_by p records) records p k packets → IsStanding s (crossed_by p all) all p k packets
   same_standing Reading k packets same none within h = (same h.0, h.1 ∙ sym (stamps_none none))
-  same_standing (Refused refusal) k packets same none within h =
-      (refused_by refusal.fault h.0 (by_test (leb q.number p.last_record) refl), h.1 ∙ sym (subject_kept refusal.fault.place within))
+  same_standing (Refused refusal) k packets same none within h = (
+    refused_by refusal.fault h.0 (by_test (leb q.number p.last_record) refl),
+    h.1 ∙ sym (subject_kept refusal.fault.place within),
+    before_kept refusal.fault (omega (arith, within)) ∙ h.2,
+    h.3 ∙ sym (stamps_none none),
+  )
   same_standing OutOfMemory k packets same none within h = tt
 
   pub same_within : (s : Standing) → IsWithin s (length records) → IsWithin s (length all)
@@ -155,28 +190,48 @@ module _ (p : Parameters) (records : List Captured) (q : Captured) (next : q.num
   same_within (Refused refusal) within = let size = length_push records q in omega (arith, within, size)
   same_within OutOfMemory within = tt
 
-  -- of a connection that is judged no more
-  pub stopped_standing : (s : Standing) (k : Crossing) (packets : List Stamp) → (s ≡ Reading → ⊥) → IsWithin s (length records)
-      → IsStanding s (crossed_by p records) records p k packets → IsStanding s (crossed_by p all) all p k packets
-  stopped_standing Reading k packets shut within h = absurd (shut refl)
-  stopped_standing (Refused refusal) k packets shut within h =
-      (refused_by refusal.fault h.0 (by_test (leb q.number p.last_record) refl), h.1 ∙ sym (subject_kept refusal.fault.place within))
-  stopped_standing OutOfMemory k packets shut within h = tt
+  -- of a connection that is judged no more, whose packet is noted
+  pub stopped_standing : (s : Standing) (k : Crossing) (old new : List Stamp) (time : Option CaptureTime) → time ≡ Some q.time → q.number ≤ p.last_record → pushed_at p old new (numbered q) time
+      → (s ≡ Reading → ⊥) → IsWithin s (length records) → IsStanding s (crossed_by p records) records p k old → IsStanding s (crossed_by p all) all p k new
+  stopped_standing Reading k old new time timed inside pushed shut within h = absurd (shut refl)
+  stopped_standing (Refused refusal) k old new time timed inside pushed shut within h = (
+    refused_by refusal.fault h.0 (by_test (leb q.number p.last_record) refl),
+    h.1 ∙ sym (subject_kept refusal.fault.place within),
+    before_kept refusal.fault (omega (arith, within)) ∙ h.2,
+    pushed q.time timed ∙ ap (λ l. l ++ stamps_at p (numbered q) q.time) h.3 ∙ sym (stamps_inside inside),
+  )
+  stopped_standing OutOfMemory k old new time timed inside pushed shut within h = tt
+
+  -- ---- the first and the last record that hold a packet
+
+  span_inside : (b : Bool) (old new : Span) (time : Option CaptureTime) → is_some (packet_at p (numbered q)) ≡ b → time ≡ Some q.time → q.number ≤ p.last_record
+      → new ≡ cond b (span_with old (stamp_at q.number time)) old → old ≡ span_of (stamps_held p records) → new ≡ span_of (stamps_held p all)
+  span_inside true old new time held timed inside is before =
+      is ∙ ap (λ t. span_with old (stamp_at q.number t)) timed ∙ ap (λ s. span_with s (stamp_at q.number (Some q.time))) before
+      ∙ sym (span_more (stamps_held p records) (stamp_of q))
+      ∙ ap (λ b. span_of (stamps_held p records ++ cond b (stamp_of q ∷ []) [])) (sym held)
+      ∙ ap span_of (sym (stamps_inside inside))
+  span_inside false old new time held timed inside is before =
+      is ∙ before ∙ ap span_of (sym (append-nil (stamps_held p records)))
+      ∙ ap (λ b. span_of (stamps_held p records ++ cond b (stamp_of q ∷ []) [])) (sym held)
+      ∙ ap span_of (sym (stamps_inside inside))
 
 -- ---- a connection
 
 abbrev StandsBy : List Captured → Line → Parameters → Type 0
 StandsBy records l p = IsStanding l.standing (crossed_by p records) records p (crossed_in l.builder) l.packets.items
 
-pub line_begun : (l : Line) (p : Parameters) → l.params ≡ p → l.standing ≡ Reading → crossed_in l.builder ≡ nothing_crossed p → l.packets.items ≡ [] → l.opens ≡ None → l.taken ≡ 0 → IsLine [] l
-line_begun l p params reading none packets unopened taken = record {
+pub line_begun : (l : Line) (p : Parameters) → l.params ≡ p → l.standing ≡ Reading → crossed_in l.builder ≡ nothing_crossed p → l.packets.items ≡ [] → l.opens ≡ None
+    → l.span ≡ span_of [] → l.taken ≡ 0 → IsLine [] l
+line_begun l p params reading none packets unopened unseen taken = record {
   stands = record {
     standing = subst (λ (s : Standing). IsStanding s (crossed_by l.params []) [] l.params (crossed_in l.builder) l.packets.items) (sym reading)
         (crossed_none l.params ∙ ap (λ (x : Parameters). Ok (nothing_crossed x)) params ∙ ap (λ (k : Crossing). Ok k) (sym none), packets);
     within = subst (λ (s : Standing). IsWithin s 0) (sym reading) tt;
-    shown = subst (λ (s : Standing). IsShowing s l.params (packets_held l.params []) l.shown) (sym reading) tt;
+    shown = subst (λ (s : Standing). IsShowing s l.params (crossed_in l.builder) (packets_held l.params []) l.shown l.course) (sym reading) tt;
   };
   opens = unopened ∙ sym (ap (λ r. opens_first l.params (filter_map (λ (x : Captured). packet_at l.params (numbered x)) r)) (take_all l.params.last_record [] (omega arith)));
+  span = unseen;
   taken = omega (arith, taken);
 }
 
@@ -192,6 +247,7 @@ pub record SameLine (old new : Line) : Type 0 where
   pub packets : new.packets.items ≡ old.packets.items
   pub standing : new.standing ≡ old.standing
   pub shown : new.shown ≡ old.shown
+  pub course : new.course ≡ old.course
 
 same_stands : (records : List Captured) (old new : Line) → SameLine old new → Stands records old → Stands records new
 same_stands records old new same h =
@@ -201,9 +257,11 @@ same_stands records old new same h =
           (subst (λ (l : List Stamp). IsStanding old.standing (crossed_by p records) records p (crossed_in new.builder) l) (sym same.packets)
           (subst (λ (b : StoreBuilder). IsStanding old.standing (crossed_by p records) records p (crossed_in b) old.packets.items) (sym same.builder) h.standing)));
       within = subst (λ (s : Standing). IsWithin s (length records)) (sym same.standing) h.within;
-      shown = subst (λ (x : Parameters). IsShowing new.standing x (packets_held x records) new.shown) (sym same.params)
-          (subst (λ (s : Standing). IsShowing s p (packets_held p records) new.shown) (sym same.standing)
-          (subst (λ (s : Shown). IsShowing old.standing p (packets_held p records) s) (sym same.shown) h.shown));
+      shown = subst (λ (x : Parameters). IsShowing new.standing x (crossed_in new.builder) (packets_held x records) new.shown new.course) (sym same.params)
+          (subst (λ (s : Standing). IsShowing s p (crossed_in new.builder) (packets_held p records) new.shown new.course) (sym same.standing)
+          (subst (λ (s : Shown). IsShowing old.standing p (crossed_in new.builder) (packets_held p records) s new.course) (sym same.shown)
+          (subst (λ (c : Option Course). IsShowing old.standing p (crossed_in new.builder) (packets_held p records) old.shown c) (sym same.course)
+          (subst (λ (b : StoreBuilder). IsShowing old.standing p (crossed_in b) (packets_held p records) old.shown old.course) (sym same.builder) h.shown))));
     }
 
 -- one of which memory is short
@@ -211,7 +269,7 @@ pub short_stands : (records : List Captured) (l : Line) → l.standing ≡ OutOf
 short_stands records l short = record {
   standing = subst (λ (s : Standing). IsStanding s (crossed_by l.params records) records l.params (crossed_in l.builder) l.packets.items) (sym short) tt;
   within = subst (λ (s : Standing). IsWithin s (length records)) (sym short) tt;
-  shown = subst (λ (s : Standing). IsShowing s l.params (packets_held l.params records) l.shown) (sym short) tt;
+  shown = subst (λ (s : Standing). IsShowing s l.params (crossed_in l.builder) (packets_held l.params records) l.shown l.course) (sym short) tt;
 }
 
 -- a record that changes neither what crossed nor the packets
@@ -221,11 +279,19 @@ still_stands : (l : Line) (records : List Captured) (q : Captured) → q.number 
 still_stands l records q next same none h = record {
   standing = same_standing l.params records q next l.standing (crossed_in l.builder) l.packets.items same none h.within h.standing;
   within = same_within l.params records q next l.standing h.within;
-  shown = subst (λ (packets : List Packet). IsShowing l.standing l.params packets l.shown) (sym (held_none l.params records q next none)) h.shown;
+  shown = subst (λ (packets : List Packet). IsShowing l.standing l.params (crossed_in l.builder) packets l.shown l.course) (sym (held_none l.params records q next none)) h.shown;
 }
 
+-- what is shown of what crossed before a refusal
+shown_judged : (s : Standing) (p : Parameters) (k n : Crossing) (old new : List Stamp) (r : Numbered) (time : Option CaptureTime) (packets : List Packet) (shown : Shown) (course : Option Course)
+    → IsJudgedSo s p k n old new r time → IsShowing s p k packets shown course → IsShowing s p n packets shown course
+shown_judged Reading p k n old new r time packets shown course judged h = tt
+shown_judged (Refused refusal) p k n old new r time packets shown course judged h = (h.0, subst (λ (m : Crossing). IsFollowed p m packets course) (sym judged.2) h.1)
+shown_judged OutOfMemory p k n old new r time packets shown course judged h = tt
+
 pub passes_judged : (old new : Line) (r : Numbered) (time : Option CaptureTime) → old.standing ≡ Reading → r.0 ≤ old.params.last_record → IsJudged old new r time
-    → IsShowing new.standing old.params ((crossed_in old.builder).packets ++ option_to_list (packet_at old.params r)) new.shown → new.params ≡ old.params → Passes old new r time
+    → IsShowing new.standing old.params (crossed_in old.builder) ((crossed_in old.builder).packets ++ option_to_list (packet_at old.params r)) new.shown new.course → new.params ≡ old.params
+    → Passes old new r time
 passes_judged old new r time reading inside judged shown params records q is next timed h =
     let p = old.params in
     let all : List Captured = records ++ q ∷ [] in
@@ -240,21 +306,22 @@ passes_judged old new r time reading inside judged shown params records q is nex
       standing = subst (StandsBy all new) (sym params)
           (judged_standing p records q (number ∙ next) new.standing (crossed_in old.builder) (crossed_in new.builder) old.packets.items new.packets.items time timed within same before);
       within = judged_within p records q (number ∙ next) new.standing (crossed_in old.builder) (crossed_in new.builder) old.packets.items new.packets.items time same;
-      shown = subst (λ (x : Parameters). IsShowing new.standing x (packets_held x all) new.shown) (sym params)
-          (subst (λ (packets : List Packet). IsShowing new.standing p packets new.shown) held shown);
+      shown = subst (λ (x : Parameters). IsShowing new.standing x (crossed_in new.builder) (packets_held x all) new.shown new.course) (sym params)
+          (subst (λ (packets : List Packet). IsShowing new.standing p (crossed_in new.builder) packets new.shown new.course) held
+          (shown_judged new.standing p (crossed_in old.builder) (crossed_in new.builder) old.packets.items new.packets.items (numbered q) time _ new.shown new.course same shown));
     }
 
 -- the packet of a record is taken in
 pub record IsShownBy (old new : Line) (r : Numbered) : Type 0 where
   pub params : new.params ≡ old.params
   pub builder : new.builder ≡ old.builder
-  pub packets : new.packets.items ≡ old.packets.items
-  pub shown : (packets : List Packet) → IsShowing old.standing old.params packets old.shown
-      → IsShowing new.standing old.params (packets ++ option_to_list (packet_at old.params r)) new.shown
+  pub shown : (k : Crossing) (packets : List Packet) → IsShowing old.standing old.params k packets old.shown old.course
+      → IsShowing new.standing old.params k (packets ++ option_to_list (packet_at old.params r)) new.shown new.course
 
-stopped_stands : (old new : Line) (r : Numbered) (records : List Captured) (q : Captured) → (old.standing ≡ Reading → ⊥) → r.0 ≤ old.params.last_record → IsShownBy old new r → numbered q ≡ r
-    → r.0 ≡ suc (length records) → Stands records old → new.standing ≡ old.standing → Stands (records ++ q ∷ []) new
-stopped_stands old new r records q shut inside same is next h stays =
+stopped_stands : (old new : Line) (r : Numbered) (time : Option CaptureTime) (records : List Captured) (q : Captured) → (old.standing ≡ Reading → ⊥) → r.0 ≤ old.params.last_record → IsShownBy old new r
+    → numbered q ≡ r → r.0 ≡ suc (length records) → time ≡ Some q.time → Stands records old → new.standing ≡ old.standing → pushed_at old.params old.packets.items new.packets.items r time
+    → Stands (records ++ q ∷ []) new
+stopped_stands old new r time records q shut inside same is next timed h stays pushed =
     let p = old.params in
     let all : List Captured = records ++ q ∷ [] in
     let number = first_of _ _ is in
@@ -262,25 +329,28 @@ stopped_stands old new r records q shut inside same is next h stays =
     ap (λ (x : Numbered). packets_held p records ++ option_to_list (packet_at p x)) (sym is) ∙ sym (held_inside p records q (number ∙ next) (omega (arith, number, inside))) in record {
       standing = subst (StandsBy all new) (sym same.params)
           (subst (λ (s : Standing). IsStanding s (crossed_by p all) all p (crossed_in new.builder) new.packets.items) (sym stays)
-          (subst (λ (l : List Stamp). IsStanding old.standing (crossed_by p all) all p (crossed_in new.builder) l) (sym same.packets)
-          (subst (λ (b : StoreBuilder). IsStanding old.standing (crossed_by p all) all p (crossed_in b) old.packets.items) (sym same.builder)
-          (stopped_standing p records q (number ∙ next) old.standing (crossed_in old.builder) old.packets.items shut h.within h.standing))));
+          (subst (λ (b : StoreBuilder). IsStanding old.standing (crossed_by p all) all p (crossed_in b) new.packets.items) (sym same.builder)
+          (stopped_standing p records q (number ∙ next) old.standing (crossed_in old.builder) old.packets.items new.packets.items time timed (omega (arith, number, inside))
+          (subst (λ (x : Numbered). pushed_at p old.packets.items new.packets.items x time) (sym is) pushed) shut h.within h.standing)));
       within = subst (λ (s : Standing). IsWithin s (length all)) (sym stays) (same_within p records q (number ∙ next) old.standing h.within);
-      shown = subst (λ (x : Parameters). IsShowing new.standing x (packets_held x all) new.shown) (sym same.params)
-          (subst (λ (packets : List Packet). IsShowing new.standing p packets new.shown) held (same.shown (packets_held p records) h.shown));
+      shown = subst (λ (x : Parameters). IsShowing new.standing x (crossed_in new.builder) (packets_held x all) new.shown new.course) (sym same.params)
+          (subst (λ (b : StoreBuilder). IsShowing new.standing p (crossed_in b) (packets_held p all) new.shown new.course) (sym same.builder)
+          (subst (λ (packets : List Packet). IsShowing new.standing p (crossed_in old.builder) packets new.shown new.course) held
+          (same.shown (crossed_in old.builder) (packets_held p records) h.shown)));
     }
 
 -- of a connection that is refused
 pub passes_shown : (old new : Line) (r : Numbered) (time : Option CaptureTime) → (old.standing ≡ Reading → ⊥) → r.0 ≤ old.params.last_record
-    → (new.standing ≡ old.standing) ⊎ (new.standing ≡ OutOfMemory) → IsShownBy old new r → Passes old new r time
-passes_shown old new r time shut inside (inl stays) same records q is next timed h = stopped_stands old new r records q shut inside same is next h stays
-passes_shown old new r time shut inside (inr short) same records q is next timed h = short_stands (records ++ q ∷ []) new short
+    → (new.standing ≡ OutOfMemory) ⊎ ((new.standing ≡ old.standing) × pushed_at old.params old.packets.items new.packets.items r time) → IsShownBy old new r → Passes old new r time
+passes_shown old new r time shut inside (inl short) same records q is next timed h = short_stands (records ++ q ∷ []) new short
+passes_shown old new r time shut inside (inr on) same records q is next timed h = stopped_stands old new r time records q shut inside same is next timed h on.0 on.1
 
 -- ---- one record more
 
 pub line_passed : (old begun mid new : Line) (r : Numbered) (time : Option CaptureTime) → r.0 ≤ old.params.last_record → SameLine old begun → Passes begun mid r time → SameLine mid new
-    → new.params ≡ old.params → new.opens ≡ opens_with old.opens (opens_by old.params (packet_at old.params r)) → new.taken ≡ r.0 → TakesIn old new r time
-line_passed old begun mid new r time inside start passes end params opens taken records q is next timed h =
+    → new.params ≡ old.params → new.opens ≡ opens_with old.opens (opens_by old.params (packet_at old.params r))
+    → new.span ≡ cond (is_some (packet_at old.params r)) (span_with old.span (stamp_at r.0 time)) old.span → new.taken ≡ r.0 → TakesIn old new r time
+line_passed old begun mid new r time inside start passes end params opens span taken records q is next timed h =
     let p = old.params in
     let all : List Captured = records ++ q ∷ [] in
     let number = first_of _ _ is in
@@ -291,11 +361,16 @@ line_passed old begun mid new r time inside start passes end params opens taken 
           ∙ sym (opens_more p (packets_held p records) (packet_at p (numbered q)))
           ∙ ap (opens_first p) (sym (held_inside p records q (number ∙ next) (omega (arith, number, inside))))
           ∙ ap (λ (x : Parameters). opens_first x (packets_held x all)) (sym params);
+      span =
+          span_inside p records q (number ∙ next) (is_some (packet_at p (numbered q))) old.span new.span time refl timed (omega (arith, number, inside))
+          (span ∙ ap (λ (x : Numbered). cond (is_some (packet_at p x)) (span_with old.span (stamp_at x.0 time)) old.span) (sym is)) h.span
+          ∙ ap (λ (x : Parameters). span_of (stamps_held x all)) (sym params);
       taken = omega (arith, taken, next, size);
     }
 
-pub line_behind : (old new : Line) (r : Numbered) (time : Option CaptureTime) → old.params.last_record < r.0 → SameLine old new → new.opens ≡ old.opens → new.taken ≡ r.0 → TakesIn old new r time
-line_behind old new r time behind same opens taken records q is next timed h =
+pub line_behind : (old new : Line) (r : Numbered) (time : Option CaptureTime) → old.params.last_record < r.0 → SameLine old new → new.opens ≡ old.opens → new.span ≡ old.span → new.taken ≡ r.0
+    → TakesIn old new r time
+line_behind old new r time behind same opens span taken records q is next timed h =
     let p = old.params in
     let all : List Captured = records ++ q ∷ [] in
     let number = first_of _ _ is in
@@ -304,6 +379,7 @@ line_behind old new r time behind same opens taken records q is next timed h =
     let size = length_push records q in record {
       stands = same_stands all old new same (still_stands old records q (number ∙ next) (λ e. crossed_behind p records q (number ∙ next) beyond ∙ e) none h.stands);
       opens = opens ∙ h.opens ∙ ap (opens_first p) (sym (held_none p records q (number ∙ next) none)) ∙ ap (λ (x : Parameters). opens_first x (packets_held x all)) (sym same.params);
+      span = span ∙ h.span ∙ ap span_of (sym (stamps_none p records q (number ∙ next) none)) ∙ ap (λ (x : Parameters). span_of (stamps_held x all)) (sym same.params);
       taken = omega (arith, taken, next, size);
     }
 
@@ -316,5 +392,6 @@ line_same l records q next same none h =
     let few = h.taken in record {
       stands = still_stands l records q next same none h.stands;
       opens = h.opens ∙ ap (opens_first l.params) (sym (held_none l.params records q next none));
+      span = h.span ∙ ap span_of (sym (stamps_none l.params records q next none));
       taken = omega (arith, few, size);
     }

@@ -30,6 +30,7 @@ stands_unended : (records : List Captured) (l : Line) → IsLine records l → I
 stands_unended records l h = record {
   standing = subst (λ (s : Outcome). IsStanding l.standing s records l.params (crossed_in l.builder) l.packets.items) (sym (unended l.params records (crossed_by l.params records))) h.stands.standing;
   opens = h.opens;
+  span = h.span;
   shown = h.stands.shown;
 }
 
@@ -39,6 +40,7 @@ stands_through file done fault l whole h =
     let ended = subst (λ (f : Option Fault). IsEnded (captured_in file) f l) whole.fault (subst (λ r. IsEnded r fault l) whole.captured h) in record {
       standing = subst (λ (s : Outcome). IsStanding l.standing s (captured_in file) l.params (crossed_in l.builder) l.packets.items) (sym (crossing_whole l.params file some l.window.last_most)) ended.standing;
       opens = ended.opens;
+      span = ended.span;
       shown = ended.shown;
     }
 

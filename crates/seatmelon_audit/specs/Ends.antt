@@ -9,7 +9,7 @@ use Rattle.rasta_check.specs.Capture.Crossing.{Crossing}
 use Rattle.rasta_check.specs.Capture.Reading.{then_crossing, at_end}
 use Rattle.seatmelon_middle.specs.Packets.{opens_first}
 use Rattle.seatmelon_audit.specs.Lines.{AreLines, IsChangedAt, IsLine, params_of}
-use Rattle.seatmelon_audit.specs.Records.{IsStanding, crossed_by}
+use Rattle.seatmelon_audit.specs.Records.{IsStanding, crossed_by, span_of, stamps_held}
 use Rattle.seatmelon_audit.specs.Shown.{IsShowing, packets_held}
 use Rattle.seatmelon_audit.specs.declared.line.Line.{Line}
 
@@ -31,7 +31,8 @@ pub record IsEnded (records : List Captured) (fault : Option Fault) (l : Line) :
   pub standing : IsStanding l.standing (crossed_to_end l.params records fault) records l.params
       (crossed_in l.builder) l.packets.items
   pub opens : l.opens ≡ opens_first l.params (packets_held l.params records)
-  pub shown : IsShowing l.standing l.params (packets_held l.params records) l.shown
+  pub span : l.span ≡ span_of (stamps_held l.params records)
+  pub shown : IsShowing l.standing l.params (crossed_in l.builder) (packets_held l.params records) l.shown l.course
 
 -- what stood as the records say stands as the records and the fault say
 abbrev pub EndsBy : Line → Line → Fault → Type 0

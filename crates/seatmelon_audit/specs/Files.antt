@@ -10,7 +10,7 @@ use Rattle.rasta_pcap.specs.Stream.{count_in, order_in, unit_in}
 use Rattle.rasta_check.specs.Capture.Building.{crossed_in}
 use Rattle.rasta_check.specs.Capture.Reading.{crossing_of}
 use Rattle.seatmelon_middle.specs.Packets.{opens_first}
-use Rattle.seatmelon_audit.specs.Records.{IsStanding}
+use Rattle.seatmelon_audit.specs.Records.{IsStanding, span_of, stamps_held}
 use Rattle.seatmelon_audit.specs.Shown.{IsShowing, packets_held}
 use Rattle.seatmelon_audit.specs.declared.line.Line.{Line}
 
@@ -33,7 +33,9 @@ pub record StandsThrough (file : List ℕ) (l : Line) : Type 0 where
   pub standing : IsStanding l.standing (crossing_of l.params file) (captured_in file) l.params
       (crossed_in l.builder) l.packets.items
   pub opens : l.opens ≡ opens_first l.params (packets_held l.params (captured_in file))
-  pub shown : IsShowing l.standing l.params (packets_held l.params (captured_in file)) l.shown
+  pub span : l.span ≡ span_of (stamps_held l.params (captured_in file))
+  pub shown : IsShowing l.standing l.params (crossed_in l.builder) (packets_held l.params (captured_in file)) l.shown
+      l.course
 
 -- at the end each one does
 abbrev pub AreThrough : List ℕ → List Line → Type 0

@@ -2,6 +2,7 @@ pub mod All
 pub mod Answers
 pub mod Audits
 pub mod Ends
+pub mod Facts
 pub mod Files
 pub mod Hosts
 pub mod Lines

@@ -10,7 +10,7 @@ use Rattle.rasta_pcap.specs.Capture.{Numbered}
 use Rattle.rasta_pcap.specs.Captured.{Captured, numbered}
 use Rattle.rasta_check.specs.Capture.Building.{crossed_in}
 use Rattle.seatmelon_middle.specs.Packets.{opens_first}
-use Rattle.seatmelon_audit.specs.Records.{IsJudgedSo, IsStanding, crossed_by, is_any_held, is_held}
+use Rattle.seatmelon_audit.specs.Records.{IsJudgedSo, IsStanding, crossed_by, is_any_held, is_held, span_of, stamps_held}
 use Rattle.seatmelon_audit.specs.Shown.{IsShowing, packets_held}
 use Rattle.seatmelon_audit.specs.declared.line.Line.{Line}
 use Rattle.seatmelon_audit.specs.declared.line.Standing.{Standing}
@@ -27,12 +27,13 @@ pub record Stands (records : List Captured) (l : Line) : Type 0 where
   pub standing : IsStanding l.standing (crossed_by l.params records) records l.params
       (crossed_in l.builder) l.packets.items
   pub within : IsWithin l.standing (length records)
-  pub shown : IsShowing l.standing l.params (packets_held l.params records) l.shown
+  pub shown : IsShowing l.standing l.params (crossed_in l.builder) (packets_held l.params records) l.shown l.course
 
 -- a connection after these records
 pub record IsLine (records : List Captured) (l : Line) : Type 0 where
   pub stands : Stands records l
   pub opens : l.opens ≡ opens_first l.params (packets_held l.params records)
+  pub span : l.span ≡ span_of (stamps_held l.params records)
   pub taken : l.taken ≤ length records
 
 abbrev pub IsJudged : Line → Line → Numbered → Option CaptureTime → Type 0

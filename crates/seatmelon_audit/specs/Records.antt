@@ -1,8 +1,9 @@
 -- What the records of a capture say of a connection.
 use Rattle.std.specs.Prelude.{◌≡◌, ⊤, ℕ, zero, suc, List, [], ◌∷◌, ◌++◌, take, map, filter, not, nat_eq, nat_le}
-use Rattle.std.specs.Prelude.{is_some, ◌&&◌, Bool, Option, None, Some, option_map, slice_get, Result, Ok, Err}
+use Rattle.std.specs.Prelude.{is_some, ◌&&◌, ◌-◌, Bool, Option, None, Some, option_map, slice_get, Result, Ok, Err}
 use Rattle.std.specs.Prelude.{if◌then◌else◌}
-use Rattle.std.specs.List.{list_any}
+use Rattle.std.specs.List.{last_or, list_any}
+use Rattle.std.specs.Option.{option_or}
 use Rattle.rasta_pcap.specs.declared.fault.Fault.{Fault}
 use Rattle.rasta_pcap.specs.declared.time.CaptureTime.{CaptureTime}
 use Rattle.rasta_pcap.specs.Capture.{Numbered}
@@ -10,6 +11,7 @@ use Rattle.rasta_pcap.specs.Captured.{Captured, numbered}
 use Rattle.rasta_pdu.specs.Params.{Parameters}
 use Rattle.rasta_check.specs.Capture.Crossing.{Crossing, nothing_crossed}
 use Rattle.rasta_check.specs.Capture.Reading.{after_record, after_records, packet_at}
+use Rattle.seatmelon_audit.specs.declared.line.Span.{Span}
 use Rattle.seatmelon_audit.specs.declared.line.Stamp.{Stamp}
 use Rattle.seatmelon_audit.specs.declared.line.Standing.{Standing}
 use Rattle.seatmelon_audit.specs.declared.line.Standing.TheVariants.{OutOfMemory, Reading, Refused}
@@ -18,6 +20,10 @@ use Rattle.seatmelon_audit.specs.declared.line.Subject.{Subject}
 -- what crossed by these records up to the last one of the window, or the first fault
 abbrev pub crossed_by : Parameters → List Captured → Result Crossing Fault
 crossed_by p records = after_records (nothing_crossed p) (map numbered (take p.last_record records)) None
+
+-- what crossed by the records before the one that a fault of the capture names
+abbrev pub crossed_before : Parameters → List Captured → Fault → Result Crossing Fault
+crossed_before p records fault = crossed_by p (take (fault.place - 1) records)
 
 -- the record holds a packet of the connection, and stands in its window
 abbrev pub is_held : Parameters → Numbered → Bool
@@ -40,6 +46,14 @@ others_in recorded records = filter (λ (r : Captured). not (is_any_held recorde
 
 abbrev pub stamp_of : Captured → Stamp
 stamp_of r = record { «record» = r.number; time = r.time }
+
+-- those that hold its packets
+abbrev pub stamps_held : Parameters → List Captured → List Stamp
+stamps_held p records = map stamp_of (holding p records)
+
+-- the first and the last of them
+abbrev pub span_of : List Stamp → Span
+span_of stamps = record { first = slice_get stamps 0; last = last_or None stamps }
 
 abbrev pub subject_at : ℕ → Option CaptureTime → Subject
 subject_at number time = record { «record» = number; time = time }
@@ -68,19 +82,26 @@ abbrev pub IsJudgedSo : Standing → Parameters → Crossing → Crossing → Li
     → Option CaptureTime → Type 0
 IsJudgedSo Reading p k next old new r time = (after_record k r ≡ Ok next) × pushed_at p old new r time
 IsJudgedSo (Refused refusal) p k next old new r time = (after_record k r ≡ Err refusal.fault)
-    × (refusal.subject ≡ Some (subject_at r.0 time))
+    × (refusal.subject ≡ Some (subject_at r.0 time)) × (next ≡ k) × pushed_at p old new r time
 IsJudgedSo OutOfMemory p k next old new r time = ⊤
 
--- a packet is noted, if there is memory for it
-abbrev pub IsNotedSo : Standing → List Stamp → List Stamp → ℕ → Option CaptureTime → Type 0
-IsNotedSo Reading old new number time = (t : CaptureTime) → time ≡ Some t
+-- a packet is noted
+abbrev pub IsNoted : List Stamp → List Stamp → ℕ → Option CaptureTime → Type 0
+IsNoted old new number time = (t : CaptureTime) → time ≡ Some t
     → new ≡ old ++ record { «record» = number; time = t } ∷ []
-IsNotedSo (Refused refusal) old new number time = ⊥
-IsNotedSo OutOfMemory old new number time = ⊤
+
+abbrev pub stamp_at : ℕ → Option CaptureTime → Option Stamp
+stamp_at number time = option_map (λ (t : CaptureTime). record { «record» = number; time = t }) time
+
+-- with one record more, if its time is known
+abbrev pub span_with : Span → Option Stamp → Span
+span_with s None = s
+span_with s (Some stamp) = record { first = option_or s.first (Some stamp); last = Some stamp }
 
 -- a connection of which this crossed, and whose packets are noted so, stands so
 abbrev pub IsStanding : Standing → Result Crossing Fault → List Captured → Parameters → Crossing → List Stamp → Type 0
 IsStanding Reading crossed records p k packets = (crossed ≡ Ok k) × (packets ≡ map stamp_of (holding p records))
 IsStanding (Refused refusal) crossed records p k packets = (crossed ≡ Err refusal.fault)
     × (refusal.subject ≡ subject_of records refusal.fault.place)
+    × (crossed_before p records refusal.fault ≡ Ok k) × (packets ≡ map stamp_of (holding p records))
 IsStanding OutOfMemory crossed records p k packets = ⊤

@@ -3,6 +3,7 @@
 
 mod answer;
 mod audits;
+mod facts;
 mod hosts;
 pub mod laws;
 mod line;
@@ -10,7 +11,8 @@ mod lines;
 mod reading;
 mod ways;
 
-pub use answer::{Answer, Audit, Conveyed, Explained};
+pub use answer::{Answer, Audit, Before, Connection, Conveyed, Explained, ShownOf};
 pub use audits::audit;
-pub use line::{Refusal, Subject};
-pub use seatmelon_middle::{Share, ShownCounts};
+pub use facts::Facts;
+pub use line::{Refusal, Span, Stamp, Subject};
+pub use seatmelon_middle::{Course, Disconnection, Share, ShownCounts};

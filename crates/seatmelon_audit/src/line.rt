@@ -6,10 +6,14 @@ ghost use Rattle.rasta_check.specs.Capture.Building.{crossed_in};
 ghost use Rattle.rasta_check.specs.Capture.Reading.{packet_at};
 ghost use Rattle.seatmelon_middle.specs.Packets.{pdu_of, requests};
 ghost use Rattle.seatmelon_audit.specs.Records.{subject_behind};
+ghost use Rattle.seatmelon_middle.specs.Course.{with_packet};
+ghost use Rattle.seatmelon_middle.specs.declared.course.Course.{Course as CourseSoFar};
+ghost use Rattle.std.specs.Prelude.{option_map};
 
 use rasta_check::{Shown, StoreBuilder};
 use rasta_pcap::{CaptureTime, Fault, Record};
 use rasta_pdu::{Datagram, Kind, Params, decode, recorded_packet};
+use seatmelon_middle::Course;
 use std::alloc::Global;
 
 /// The record that holds a packet: its number, from 1, and when it was captured.
@@ -33,6 +37,13 @@ pub struct Refusal {
     pub subject: Option<Subject>,
 }
 
+/// The first and the last record that hold a packet of a connection in its window.
+#[derive(Clone, Copy)]
+pub struct Span {
+    pub first: Option<Stamp>,
+    pub last: Option<Stamp>,
+}
+
 /// How a connection stands.
 #[derive(Clone, Copy)]
 pub enum Standing {
@@ -50,15 +61,21 @@ pub struct Line {
     pub(crate) params: Params,
     pub(crate) builder: StoreBuilder,
 
-    // The records that hold its packets, by place.
+    // The records that hold its packets in the window, by place.
     pub(crate) packets: Vec<Stamp>,
     pub(crate) standing: Standing,
 
     // Whether its first packet in the window opens the connection, if there was one.
     pub(crate) opens: Option<bool>,
 
+    // The first and the last record that hold one, also where there was no memory.
+    pub(crate) span: Span,
+
     // What its packets in the window show, once it is refused; nothing before.
     pub(crate) shown: Shown,
+
+    // How it goes on, once it is refused; none before.
+    pub(crate) course: Option<Course>,
 
     // The number of the record that was taken in last.
     pub(crate) taken: u32,
@@ -90,12 +107,43 @@ fn is_request(params: &Params, packet: &Datagram<'_>) -> bool
     }
 }
 
+// How a connection goes on with its next packet, if that is followed.
+fn followed(params: &Params, course: Option<Course>, packet: &Datagram<'_>) -> Option<Course>
+    ensures { result ≡ option_map (λ (c : CourseSoFar). with_packet params.now c (packet_of packet.now)) course }
+{
+    let mut course = course?;
+    course.add(params, packet);
+    Some(course)
+}
+
+impl Span {
+    ghost use Rattle.seatmelon_audit.specs.Records.{span_with, stamp_at};
+
+    // With one record more, which was captured at this time.
+    fn add(&mut self, number: u32, time: Option<CaptureTime>)
+        ensures { self.new ≡ span_with self.old (stamp_at number time) }
+    {
+        let Some(time) = time else {
+            return;
+        };
+        let stamp = Stamp {
+            record: number,
+            time,
+        };
+        if self.first.is_none() {
+            self.first = Some(stamp);
+        }
+        self.last = Some(stamp);
+    }
+}
+
 impl Line {
-    ghost use Rattle.std.specs.Prelude.{[], ◌⊎◌, ◌++◌, List, option_to_list};
+    ghost use Rattle.std.specs.Prelude.{None, [], ◌∷◌, ◌⊎◌, ◌++◌, List, option_to_list};
     ghost use Rattle.rasta_udp.specs.Frame.{Packet};
+    ghost use Rattle.rasta_check.specs.Capture.Crossing.{Crossing};
     ghost use Rattle.seatmelon_audit.specs.Ends.{EndsBy};
     ghost use Rattle.seatmelon_audit.specs.Lines.{HeldOnce, IsJudged, IsLine, IsStep, Passes, TakesIn};
-    ghost use Rattle.seatmelon_audit.specs.Records.{IsNotedSo, is_held};
+    ghost use Rattle.seatmelon_audit.specs.Records.{IsNoted, is_held, pushed_at, span_of, span_with, stamp_at};
     ghost use Rattle.seatmelon_audit.specs.Shown.{IsShowing, opens_by, opens_with};
     ghost use Rattle.seatmelon_audit.specs.declared.line.Standing.TheVariants.{OutOfMemory as Short, Reading};
     ghost use Rattle.seatmelon_audit.specs.declared.line.Standing.TheVariants.{Refused as IsRefused};
@@ -111,7 +159,12 @@ impl Line {
             packets: Vec::new(alloc),
             standing: Standing::Reading,
             opens: None,
+            span: Span {
+                first: None,
+                last: None,
+            },
             shown: Shown::new(alloc, *params),
+            course: None,
             taken: 0,
             alloc,
         }
@@ -124,12 +177,14 @@ impl Line {
         matches!(recorded_packet(&self.params, record), Ok(Some(_)))
     }
 
-    // Notes a packet of the record with this number.
+    // Notes a packet of the record with this number, if there is memory for it.
     fn note(&mut self, number: u32, time: Option<CaptureTime>)
-        requires reading { self.old.standing ≡ Reading }
-        ensures noted { IsNotedSo self.new.standing self.old.packets.items self.new.packets.items number time }
+        ensures noted { (self.new.standing ≡ Short) ⊎ ((self.new.standing ≡ self.old.standing)
+            × IsNoted self.old.packets.items self.new.packets.items number time) }
         ensures kept { (self.new.params ≡ self.old.params) × (self.new.builder ≡ self.old.builder)
-            × (self.new.taken ≡ self.old.taken) × (self.new.opens ≡ self.old.opens) }
+            × (self.new.taken ≡ self.old.taken) × (self.new.opens ≡ self.old.opens)
+            × (self.new.span ≡ self.old.span) × (self.new.shown ≡ self.old.shown)
+            × (self.new.course ≡ self.old.course) }
     {
         let Some(time) = time else {
             return;
@@ -159,7 +214,8 @@ impl Line {
             (opens_by self.old.params (packet_at self.old.params («record».now.number, «record».now.bytes.now))) }
         ensures kept { (self.new.params ≡ self.old.params) × (self.new.builder ≡ self.old.builder)
             × (self.new.packets.items ≡ self.old.packets.items) × (self.new.standing ≡ self.old.standing)
-            × (self.new.shown ≡ self.old.shown) × (self.new.taken ≡ self.old.taken) }
+            × (self.new.shown ≡ self.old.shown) × (self.new.course ≡ self.old.course)
+            × (self.new.taken ≡ self.old.taken) × (self.new.span ≡ self.old.span) }
     {
         if self.opens.is_none() {
             self.opens = self.opens_by(record);
@@ -169,39 +225,59 @@ impl Line {
     // Refuses the connection. Its packets so far, which all crossed, are taken in again for what they show.
     fn refuse(&mut self, refusal: Refusal)
         ensures standing { (self.new.standing ≡ IsRefused refusal) ⊎ (self.new.standing ≡ Short) }
-        ensures shown { IsShowing self.new.standing self.old.params (crossed_in self.old.builder).packets
-            self.new.shown }
+        ensures shown { IsShowing self.new.standing self.old.params (crossed_in self.old.builder)
+            (crossed_in self.old.builder).packets self.new.shown self.new.course }
         ensures kept { (self.new.params ≡ self.old.params) × (self.new.builder ≡ self.old.builder)
             × (self.new.packets.items ≡ self.old.packets.items) × (self.new.opens ≡ self.old.opens)
-            × (self.new.taken ≡ self.old.taken) }
+            × (self.new.taken ≡ self.old.taken) × (self.new.span ≡ self.old.span) }
     {
         match Shown::of_store(self.alloc, self.builder.store()) {
             Ok(shown) => {
                 self.shown = shown;
+                self.course = Some(Course::of_store(self.builder.store()));
                 self.standing = Standing::Refused(refusal);
             }
             Err(_) => self.standing = Standing::OutOfMemory,
         }
     }
 
-    // Takes in the packet of a record of a connection that is refused, and answers whether it holds one.
-    fn show(&mut self, record: &Record<'_>) -> bool
+    // Takes in a packet of a connection that is refused, for what it shows and how the connection goes on.
+    fn see(&mut self, packet: &Datagram<'_>)
         ensures standing { (self.new.standing ≡ self.old.standing) ⊎ (self.new.standing ≡ Short) }
-        ensures shown { (packets : List Packet) → IsShowing self.old.standing self.old.params packets self.old.shown
-            → IsShowing self.new.standing self.old.params (packets
-            ++ option_to_list (packet_at self.old.params («record».now.number, «record».now.bytes.now)))
-            self.new.shown }
-        ensures held { result ≡ is_some (packet_at self.old.params («record».now.number, «record».now.bytes.now)) }
+        ensures shown { (k : Crossing) (packets : List Packet)
+            → IsShowing self.old.standing self.old.params k packets self.old.shown self.old.course
+            → IsShowing self.new.standing self.old.params k (packets ++ packet_of packet.now ∷ []) self.new.shown
+            self.new.course }
         ensures kept { (self.new.params ≡ self.old.params) × (self.new.builder ≡ self.old.builder)
             × (self.new.packets.items ≡ self.old.packets.items) × (self.new.opens ≡ self.old.opens)
-            × (self.new.taken ≡ self.old.taken) }
+            × (self.new.taken ≡ self.old.taken) × (self.new.span ≡ self.old.span) }
+    {
+        self.course = followed(&self.params, self.course, packet);
+        if self.shown.add(packet).is_err() {
+            self.standing = Standing::OutOfMemory;
+        }
+    }
+
+    // Takes in the packet of a record of a connection that is refused, and answers whether it holds one.
+    fn show(&mut self, record: &Record<'_>, time: Option<CaptureTime>) -> bool
+        ensures standing { (self.new.standing ≡ Short) ⊎ ((self.new.standing ≡ self.old.standing)
+            × pushed_at self.old.params self.old.packets.items self.new.packets.items
+            («record».now.number, «record».now.bytes.now) time) }
+        ensures shown { (k : Crossing) (packets : List Packet)
+            → IsShowing self.old.standing self.old.params k packets self.old.shown self.old.course
+            → IsShowing self.new.standing self.old.params k (packets
+            ++ option_to_list (packet_at self.old.params («record».now.number, «record».now.bytes.now)))
+            self.new.shown self.new.course }
+        ensures held { result ≡ is_some (packet_at self.old.params («record».now.number, «record».now.bytes.now)) }
+        ensures kept { (self.new.params ≡ self.old.params) × (self.new.builder ≡ self.old.builder)
+            × (self.new.opens ≡ self.old.opens) × (self.new.taken ≡ self.old.taken)
+            × (self.new.span ≡ self.old.span) }
     {
         let Ok(Some(packet)) = recorded_packet(&self.params, record) else {
             return false;
         };
-        if self.shown.add(&packet).is_err() {
-            self.standing = Standing::OutOfMemory;
-        }
+        self.see(&packet);
+        self.note(record.number, time);
         true
     }
 
@@ -209,11 +285,12 @@ impl Line {
     fn judge(&mut self, record: &Record<'_>, time: Option<CaptureTime>) -> bool
         requires reading { self.old.standing ≡ Reading }
         ensures judged { IsJudged self.old self.new («record».now.number, «record».now.bytes.now) time }
-        ensures shown { IsShowing self.new.standing self.old.params ((crossed_in self.old.builder).packets
+        ensures shown { IsShowing self.new.standing self.old.params (crossed_in self.old.builder)
+            ((crossed_in self.old.builder).packets
             ++ option_to_list (packet_at self.old.params («record».now.number, «record».now.bytes.now)))
-            self.new.shown }
+            self.new.shown self.new.course }
         ensures kept { (self.new.params ≡ self.old.params) × (self.new.taken ≡ self.old.taken)
-            × (self.new.opens ≡ self.old.opens) }
+            × (self.new.opens ≡ self.old.opens) × (self.new.span ≡ self.old.span) }
         ensures held { result ≡ is_some (packet_at self.old.params («record».now.number, «record».now.bytes.now)) }
     {
         match self.builder.add(record) {
@@ -232,7 +309,7 @@ impl Line {
                     time,
                 });
                 self.refuse(Refusal { fault, subject });
-                self.show(record)
+                self.show(record, time)
             }
         }
     }
@@ -244,11 +321,11 @@ impl Line {
         ensures stands { Passes self.old self.new («record».now.number, «record».now.bytes.now) time }
         ensures held { result ≡ is_some (packet_at self.old.params («record».now.number, «record».now.bytes.now)) }
         ensures kept { (self.new.params ≡ self.old.params) × (self.new.taken ≡ self.old.taken)
-            × (self.new.opens ≡ self.old.opens) }
+            × (self.new.opens ≡ self.old.opens) × (self.new.span ≡ self.old.span) }
     {
         match self.standing {
             Standing::Reading => self.judge(record, time),
-            Standing::Refused(_) => self.show(record),
+            Standing::Refused(_) => self.show(record, time),
             Standing::OutOfMemory => self.sees(record),
         }
     }
@@ -268,6 +345,7 @@ impl Line {
         let held = self.pass(record, time);
         if held {
             self.note_opening(record);
+            self.span.add(record.number, time);
         }
         held
     }

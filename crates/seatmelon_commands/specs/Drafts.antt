@@ -7,13 +7,14 @@ use Rattle.seatmelon_connections.specs.declared.connection.Connection.{Connectio
 use Rattle.seatmelon_connections.specs.Noted.{first_id_in, lacks_quiet_point_in, second_id_in}
 use Rattle.seatmelon_survey.specs.Findings.{Findings}
 use Rattle.seatmelon_commands.specs.declared.answer.Answer.{Answer}
-use Rattle.seatmelon_commands.specs.declared.answer.Answer.TheVariants.{Survey, Draft}
+use Rattle.seatmelon_commands.specs.declared.answer.Answer.TheVariants.{Survey, SurveyJson, Draft}
 use Rattle.seatmelon_commands.specs.declared.answer.Draft as drafts
 
 -- the draft is that of the connection of this number, from 1, and names the fault of the capture by the format of its
--- file; the survey stands where there is none at all
+-- file; the survey stands where there is none at all, in words
 abbrev pub IsAnswer : Findings → ℕ → Answer → Type 0
 IsAnswer survey number (Survey s) = (s.now ≡ survey) × (length survey.connections ≡ 0)
+IsAnswer survey number (SurveyJson s) = ⊥
 IsAnswer survey number (Draft d) =
     (1 ≤ number) × (slice_get survey.connections (number - 1) ≡ Some d.connection.now) × (d.fault ≡ survey.fault)
     × (d.format ≡ survey.format)
@@ -34,6 +35,7 @@ pub record KeepsParams (old : drafts.Draft) (p : Parameters) (new : drafts.Draft
 -- a draft has no quiet point, though one is wanted behind a record
 abbrev pub lacks_quiet_point : Answer → Bool
 lacks_quiet_point (Survey s) = false
+lacks_quiet_point (SurveyJson s) = false
 lacks_quiet_point (Draft d) = lacks_quiet_point_in d.connection.now
 
 -- no connection has this number

@@ -3,7 +3,7 @@ use Rattle.std.specs.Prelude.{◌≡◌, ◌⊎◌, ℕ, ◌==◌, ◌||◌, Boo
 use Rattle.seatmelon_commands.specs.declared.failure.Failure.{Failure}
 use Rattle.seatmelon_commands.specs.declared.failure.Failure.TheVariants.{OutOfMemory, Arguments, Reading, Writing}
 use Rattle.seatmelon_commands.specs.declared.failure.Failure.TheVariants.{ClosedPipe, Refused, NoConnection, NoRecord}
-use Rattle.seatmelon_commands.specs.declared.failure.Failure.TheVariants.{OtherIds, Parameters, NoFiles, TooManyFiles}
+use Rattle.seatmelon_commands.specs.declared.failure.Failure.TheVariants.{OtherIds, Parameters, NoCertificate, NoFiles, TooManyFiles}
 
 -- a capture; words and parameters; memory and devices
 abbrev pub status_of : Failure → ℕ
@@ -13,6 +13,7 @@ status_of (NoConnection path number count) = 2
 status_of (NoRecord path number records) = 2
 status_of (OtherIds path number) = 2
 status_of (Parameters path refusal) = 2
+status_of (NoCertificate path mistaken) = 2
 status_of (NoFiles path) = 2
 status_of (TooManyFiles most) = 2
 status_of OutOfMemory = 3
@@ -32,6 +33,7 @@ is_told (NoConnection path number count) = true
 is_told (NoRecord path number records) = true
 is_told (OtherIds path number) = true
 is_told (Parameters path refusal) = true
+is_told (NoCertificate path mistaken) = true
 is_told (NoFiles path) = true
 is_told (TooManyFiles most) = true
 

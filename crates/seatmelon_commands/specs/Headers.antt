@@ -6,7 +6,7 @@ use Rattle.seatmelon_capture.specs.Header.{header_in}
 use Rattle.seatmelon_commands.specs.declared.failure.Failure.{Failure}
 use Rattle.seatmelon_commands.specs.declared.failure.Failure.TheVariants.{OutOfMemory, Arguments, Reading, Writing}
 use Rattle.seatmelon_commands.specs.declared.failure.Failure.TheVariants.{ClosedPipe, Refused, NoConnection, NoRecord}
-use Rattle.seatmelon_commands.specs.declared.failure.Failure.TheVariants.{OtherIds, Parameters, NoFiles, TooManyFiles}
+use Rattle.seatmelon_commands.specs.declared.failure.Failure.TheVariants.{OtherIds, Parameters, NoCertificate, NoFiles, TooManyFiles}
 
 -- what is told of a header is so
 abbrev pub HeaderFits : (Option FileHeader → Type 0) → Failure → Type 0
@@ -20,6 +20,7 @@ HeaderFits fits (NoConnection path number count) = ⊤
 HeaderFits fits (NoRecord path number records) = ⊤
 HeaderFits fits (OtherIds path number) = ⊤
 HeaderFits fits (Parameters path refusal) = ⊤
+HeaderFits fits (NoCertificate path mistaken) = ⊤
 HeaderFits fits (NoFiles path) = ⊤
 HeaderFits fits (TooManyFiles most) = ⊤
 

@@ -1,3 +1,4 @@
+pub mod Conversions
 pub mod Converted
 pub mod Drafts
 pub mod Explained

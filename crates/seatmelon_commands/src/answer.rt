@@ -28,6 +28,9 @@ pub enum Answer<'a> {
     /// What was found in a capture.
     Survey(&'a Survey),
 
+    /// The same as JSON.
+    SurveyJson(&'a Survey),
+
     /// A parameter file.
     Draft(Draft<'a>),
 }
@@ -55,6 +58,7 @@ impl Answer<'_> {
     fn write<W: Sink>(&self, writer: &mut W) -> Result<(), Fault> {
         match self {
             Answer::Survey(survey) => survey.write(writer),
+            Answer::SurveyJson(survey) => survey.write_json(writer),
             Answer::Draft(draft) => draft.write(writer),
         }
     }

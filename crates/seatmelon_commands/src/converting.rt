@@ -3,6 +3,7 @@ ghost use Rattle.std.specs.Prelude.{◌≡◌, ◌⊎◌, ◌≤◌, [], None, I
 ghost use Rattle.std.specs.Io.KnownBytes.{Appends};
 ghost use Rattle.rasta_pcap.specs.Fault.{no_memory, read_failed, write_failed};
 ghost use Rattle.seatmelon_pcapng.specs.Formats.{capture_of, format_of, refusal_told};
+ghost use Rattle.seatmelon_commands.specs.Conversions.{converted};
 ghost use Rattle.seatmelon_commands.specs.Failing.{status_of};
 
 use crate::failure::Failure;
@@ -10,12 +11,21 @@ use crate::output::{STANDARD_OUTPUT, failed, finish, output_to};
 use crate::reading::{BUFFER, STANDARD_INPUT, unread};
 use crate::watched::Watched;
 use rasta_pcap::{Counted, Fault, Sink, Source, write_all};
-use seatmelon_pcapng::{Capture, Format, Refusal};
+use seatmelon_cooked::{Frames, Kind, write_ethernet};
+use seatmelon_pcapng::{Capture, Format, Peeked, Refusal};
 use std::alloc::Global;
 use std::fs::File;
-use std::io;
 use std::io::{Input, Read, Write};
 use std::rt::Files;
+use std::{fmt, io};
+
+/// What a conversion came to: the file's format, and how many packets got headers of Ethernet, if it has packets with Linux
+/// cooked headers.
+#[derive(Clone, Copy)]
+pub struct Conversion {
+    pub format: Format,
+    pub frames: Option<Frames>,
+}
 
 // Writes the classic capture of what a source gives, a file in either format, all of it, by large pieces. Answers the
 // file's format. The source is taken whole: a capture isn't opened over a reader that is borrowed here.
@@ -63,23 +73,65 @@ pub fn convert<R: Source, W: Sink>(
     convert_source(alloc, reader, writer)
 }
 
-/// Writes the classic capture of what a reader gives, a file in either format, to a device, all of it; `path` is the file's
-/// name in the failure. Answers the file's format.
-pub fn convert_of<D: Read + Drop, W: Write + Drop>(
+// The same as a capture of Ethernet frames, if it is a classic capture of packets with Linux cooked headers.
+fn convert_frames<S: Source, W: Sink>(
+    alloc: Global,
+    source: S,
+    writer: &mut W,
+) -> Result<Conversion, Fault>
+where
+    S: Drop,
+    ensures written { IfSome (S.remaining source) (λ file. IfOk result (λ _. Appends (W.contents writer.old) (W.contents writer.new) (converted file))) }
+    ensures format { IfSome (S.remaining source) (λ file. S.notes source [] → IfOk result (λ c. c.format ≡ format_of file)) }
+    ensures err { IfErr result (λ f. (f ≡ no_memory) ⊎ ((f ≡ read_failed) ⊎ (f ≡ write_failed))) }
+{
+    let mut peeked = Peeked::new(source)?;
+    if peeked.is_pcapng() {
+        let format = convert(alloc, &mut peeked, writer)?;
+        return Ok(Conversion {
+            format,
+            frames: None,
+        });
+    }
+    Ok(Conversion {
+        format: Format::Classic,
+        frames: write_ethernet(alloc, &mut peeked, writer)?,
+    })
+}
+
+/// Writes the capture of Ethernet frames of what a reader gives, a file in either format, all of it: the classic capture of
+/// a pcapng file, that of Ethernet frames of a classic one with Linux cooked headers, else the file as it is.
+///
+/// Refused by [`Fault::NO_MEMORY`], [`Fault::READ_FAILED`] and [`Fault::WRITE_FAILED`] alone.
+pub fn convert_to_ethernet<R: Source, W: Sink>(
+    alloc: Global,
+    reader: &mut R,
+    writer: &mut W,
+) -> Result<Conversion, Fault>
+    ensures written { IfSome (R.remaining reader.old) (λ file. IfOk result (λ _. Appends (W.contents writer.old) (W.contents writer.new) (converted file))) }
+    ensures format { IfSome (R.remaining reader.old) (λ file. R.notes reader.old [] → IfOk result (λ c. c.format ≡ format_of file)) }
+    ensures err { IfErr result (λ f. (f ≡ no_memory) ⊎ ((f ≡ read_failed) ⊎ (f ≡ write_failed))) }
+{
+    convert_frames(alloc, reader, writer)
+}
+
+/// Writes the capture of Ethernet frames of what a reader gives, a file in either format, to a device, all of it; `path` is
+/// the file's name in the failure.
+pub fn conversion_of<D: Read + Drop, W: Write + Drop>(
     alloc: Global,
     path: &str,
     file: D,
     device: W,
-) -> Result<Format, Failure>
-    ensures format { IfSome (D.remaining file) (λ bytes. IfOk result (λ f. f ≡ format_of bytes)) }
+) -> Result<Conversion, Failure>
+    ensures format { IfSome (D.remaining file) (λ bytes. IfOk result (λ c. c.format ≡ format_of bytes)) }
     ensures err { IfErr result (λ failure. status_of failure ≡ 3) }
 {
     let mut source = Counted::new(Watched::new(file));
     let mut output = output_to(alloc, device)?;
-    match convert(alloc, &mut source, &mut output) {
-        Ok(format) => {
+    match convert_to_ethernet(alloc, &mut source, &mut output) {
+        Ok(conversion) => {
             finish(alloc, STANDARD_OUTPUT, output, Ok(()))?;
-            Ok(format)
+            Ok(conversion)
         }
         Err(fault) => {
             let reader = source.into_inner();
@@ -89,16 +141,35 @@ pub fn convert_of<D: Read + Drop, W: Write + Drop>(
     }
 }
 
+/// The same; answers the file's format alone.
+pub fn convert_of<D: Read + Drop, W: Write + Drop>(
+    alloc: Global,
+    path: &str,
+    file: D,
+    device: W,
+) -> Result<Format, Failure>
+    ensures format { IfSome (D.remaining file) (λ bytes. IfOk result (λ f. f ≡ format_of bytes)) }
+    ensures err { IfErr result (λ failure. status_of failure ≡ 3) }
+{
+    match conversion_of(alloc, path, file, device) {
+        Ok(conversion) => Ok(conversion.format),
+        Err(failure) => Err(failure),
+    }
+}
+
 // Converts the file of that path; `-` is standard input.
-fn convert_at<R: AllocGlobal + Files + Input + Print>(rt: &R, path: &str) -> Result<Format, Failure>
+fn convert_at<R: AllocGlobal + Files + Input + Print>(
+    rt: &R,
+    path: &str,
+) -> Result<Conversion, Failure>
     ensures { IfErr result (λ failure. status_of failure ≡ 3) }
 {
     let (alloc, device) = (rt.alloc(), io::writer(rt));
     if path == STANDARD_INPUT {
-        return convert_of(alloc, path, rt.reader(), device);
+        return conversion_of(alloc, path, rt.reader(), device);
     }
     match File::open(rt, path) {
-        Ok(file) => convert_of(alloc, path, file, device),
+        Ok(file) => conversion_of(alloc, path, file, device),
         Err(error) => Err(unread(alloc, path, Some(error))),
     }
 }
@@ -113,6 +184,44 @@ fn tell_refusal<R: Eprint>(rt: &R, path: &str, refusal: Refusal) {
     );
 }
 
+/// What standard error is told of packets that got headers of Ethernet.
+#[derive(Clone, Copy)]
+pub struct FramesTold(pub Frames);
+
+impl FramesTold {
+    // Writes how many packets were left out.
+    fn write_left_out<W: fmt::Write>(&self, f: &mut fmt::Formatter<W>) -> fmt::Result {
+        match self.0.left_out {
+            0 => Ok(()),
+            left_out => write!(
+                f,
+                "; left out, with an empty record each: {left_out}, captured cut inside the cooked header"
+            ),
+        }
+    }
+}
+
+impl fmt::Display for FramesTold {
+    fn fmt<W: fmt::Write>(&self, f: &mut fmt::Formatter<W>) -> fmt::Result {
+        let Frames {
+            kind,
+            written,
+            nameless,
+            ..
+        } = self.0;
+        let (number, name) = match kind {
+            Kind::Sll => (113, "Linux cooked capture"),
+            Kind::Sll2 => (276, "Linux cooked capture v2"),
+        };
+        write!(
+            f,
+            "packets of link type {number} ({name}) that got Ethernet headers: {written}; the receiver's address is \
+             zeros in all of them, the sender's in {nameless}"
+        )?;
+        self.write_left_out(f)
+    }
+}
+
 /// The program's status after a conversion: 1 where the file is refused.
 pub fn status_of_format(format: Format) -> u8
     ensures refused { IsSome (refusal_told format) → result ≡ 1 }
@@ -121,8 +230,9 @@ pub fn status_of_format(format: Format) -> u8
     u8::from(format.refusal().is_some())
 }
 
-/// Writes the classic capture of the file of that path to standard output; a classic capture is written as it is. Answers
-/// the program's status: it is 1 where the file is refused behind some packets, which standard error is told.
+/// Writes the classic capture of the file of that path to standard output; a classic capture is written as it is, unless its
+/// packets have Linux cooked headers, which become headers of Ethernet, as standard error is told. Answers the program's
+/// status: it is 1 where the file is refused behind some packets, which standard error is told.
 pub fn convert_file<R: AllocGlobal + Files + Input + Print + Eprint>(
     rt: &R,
     path: &str,
@@ -130,7 +240,11 @@ pub fn convert_file<R: AllocGlobal + Files + Input + Print + Eprint>(
     ensures ok { IfOk result (λ status. status ≤ 1) }
     ensures err { IfErr result (λ failure. status_of failure ≡ 3) }
 {
-    let format = convert_at(rt, path)?;
+    let Conversion { format, frames } = convert_at(rt, path)?;
+    if let Some(frames) = frames {
+        // Where standard error fails too, the capture is written all the same.
+        let _ = eprintln!(rt; "seatmelon: {path}: {}", FramesTold(frames));
+    }
     if let Some(refusal) = format.refusal() {
         tell_refusal(rt, path, refusal);
     }

@@ -5,6 +5,7 @@ ghost use Rattle.seatmelon_explain.specs.declared.explaining.Outcome.TheVariants
 ghost use Rattle.seatmelon_commands.specs.Explained.{IsCaptureExplained, IsGivenFor};
 ghost use Rattle.seatmelon_commands.specs.Failing.{status_of, IsOfExplaining, TellsWords};
 
+use crate::certificate::judge_certificate;
 use crate::failure::Failure;
 use crate::file_kind::{FileKind, kind_of_start};
 use crate::output::failed;
@@ -181,7 +182,7 @@ fn explain_capture<R: AllocGlobal + Files + Input + Print + Eprint + Clock>(
 /// Tells on standard error what else the capture seems to be.
 pub fn advise<R: Eprint>(rt: &R, path: &str, kind: FileKind) {
     let advice = match kind {
-        FileKind::Text => "this looks like a text file: are CAPTURE and PARAMS swapped?",
+        FileKind::Text => "this looks like a text file, where a capture is wanted",
         FileKind::Gzip => "this is a gzip file: gunzip it first",
         FileKind::Capture | FileKind::Pcapng | FileKind::Other => return,
     };
@@ -189,20 +190,19 @@ pub fn advise<R: Eprint>(rt: &R, path: &str, kind: FileKind) {
     let _ = eprintln!(rt; "seatmelon: {path}: {advice}");
 }
 
-// The bytes of the certificate, where one is named.
+// The bytes of the certificate, where one is named, and not a parameter file in its place.
 fn certificate_of<R: AllocGlobal + Files>(
     rt: &R,
     path: Option<&str>,
 ) -> Result<Option<Vec<u8>>, Failure>
-    ensures { IfErr result (λ failure. status_of failure ≡ 3) }
+    ensures { IfErr result IsOfExplaining }
 {
-    match path {
-        Some(path) => match whole_file(rt, path) {
-            Ok(text) => Ok(Some(text)),
-            Err(failure) => Err(failure),
-        },
-        None => Ok(None),
-    }
+    let Some(path) = path else {
+        return Ok(None);
+    };
+    let text = whole_file(rt, path)?;
+    judge_certificate(rt.alloc(), path, &text)?;
+    Ok(Some(text))
 }
 
 // Reads the parameters, and then the certificate where one is named.

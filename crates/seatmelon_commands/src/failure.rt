@@ -2,6 +2,7 @@
 ghost use Rattle.std.specs.Prelude.{◌≡◌};
 ghost use Rattle.seatmelon_commands.specs.Failing.{is_told, status_of};
 
+use crate::certificate::Mistaken;
 use crate::file_kind::FileKind;
 use crate::parameters::ParameterRefusal;
 use rasta_pcap::Fault;
@@ -59,6 +60,11 @@ pub enum Failure {
         path: String,
         refusal: ParameterRefusal,
     },
+    #[error("{path}: this looks like {mistaken}")]
+    NoCertificate {
+        path: String,
+        mistaken: Mistaken,
+    },
     #[error("{path}: the folder has no parameter file: their names end in .toml")]
     NoFiles {
         path: String,
@@ -88,12 +94,20 @@ impl From<AllocError> for Failure {
     }
 }
 
-// What is told of a file of this kind, or of frames that are of no use, after a line feed.
-fn advice_on(kind: FileKind, has_other_frames: bool) -> &'static str {
-    match kind {
-        FileKind::Capture if has_other_frames => {
-            "\ncapture on an Ethernet interface, not on 'any': frames without Ethernet headers can't be converted"
+// What is told of a file of this kind, or of frames of this link type, which are of no use, after a line feed.
+fn advice_on(kind: FileKind, link_type: Option<u16>) -> &'static str {
+    match (kind, link_type) {
+        (FileKind::Capture, Some(COOKED | COOKED_2)) => {
+            "\nmake Ethernet frames of them: seatmelon convert CAPTURE > OUT"
         }
+        (FileKind::Capture, Some(_)) => "\ncapture on an Ethernet interface",
+        _ => advice_on_kind(kind),
+    }
+}
+
+// The same of its kind alone.
+fn advice_on_kind(kind: FileKind) -> &'static str {
+    match kind {
         FileKind::Gzip => "\nthis is a gzip file: gunzip it first",
         FileKind::Text => {
             "\nthis looks like a text file; CAPTURE is the file that holds the packets"
@@ -102,8 +116,12 @@ fn advice_on(kind: FileKind, has_other_frames: bool) -> &'static str {
     }
 }
 
-// The link type of Ethernet.
+// The link types of Ethernet, and of packets of Linux's device 'any', in two versions.
 const ETHERNET: u16 = 1;
+
+const COOKED: u16 = 113;
+
+const COOKED_2: u16 = 276;
 
 // The link type that a fault speaks of: where it is that of Ethernet, its field says more than the type.
 fn refused_link_type(refusal: &Refusal) -> Option<u16> {
@@ -159,7 +177,7 @@ impl fmt::Display for Refusal {
         }
         let link_type = refused_link_type(self);
         write_link_type(f, link_type)?;
-        let advice = advice_on(self.kind, link_type.is_some());
+        let advice = advice_on(self.kind, link_type);
         write!(f, " ({} {}){advice}", fault.number, fault.name())
     }
 }
@@ -183,6 +201,7 @@ pub fn status(failure: &Failure) -> u8
         | Failure::NoConnection { .. }
         | Failure::NoRecord { .. }
         | Failure::OtherIds { .. }
+        | Failure::NoCertificate { .. }
         | Failure::Parameters { .. } => 2,
         Failure::NoFiles { .. } | Failure::TooManyFiles { .. } => 2,
         Failure::OutOfMemory | Failure::Reading { .. } | Failure::Writing { .. } => 3,
@@ -200,6 +219,21 @@ pub fn is_told(failure: &Failure) -> bool
         Failure::Writing { .. } | Failure::Refused { .. } => true,
         Failure::NoConnection { .. } | Failure::NoRecord { .. } => true,
         Failure::OtherIds { .. } | Failure::Parameters { .. } => true,
-        Failure::NoFiles { .. } | Failure::TooManyFiles { .. } => true,
+        Failure::NoCertificate { .. } | Failure::NoFiles { .. } => true,
+        Failure::TooManyFiles { .. } => true,
+    }
+}
+
+/// The same failure of a file that wasn't named, but its folder: the text of refused parameters says how to leave out a file
+/// that seems to be none of parameters.
+pub fn of_folder(failure: Failure) -> Failure
+    ensures { status_of result ≡ status_of failure }
+{
+    match failure {
+        Failure::Parameters { path, refusal } => Failure::Parameters {
+            path,
+            refusal: refusal.of_folder(),
+        },
+        other => other,
     }
 }

@@ -2,6 +2,27 @@
 
 use rasta_params::KEYS;
 
+// How many keys a text has at least that seems to be a parameter file: another file may have one by chance.
+const FEWEST_KEYS: usize = 2;
+
+/// A key that stands in a table: its place among those that a parameter file has, from 0, and its line, from 1.
+#[derive(Clone, Copy, Debug)]
+pub struct MisplacedKey {
+    pub place: usize,
+    pub line: usize,
+}
+
+impl MisplacedKey {
+    pub fn name(&self) -> Option<&'static str> {
+        KEYS.get(self.place).copied()
+    }
+}
+
+/// The place of a name among the keys that a parameter file has, from 0.
+pub fn place_of_key(name: &str) -> Option<usize> {
+    KEYS.iter().position(|key| *key == name)
+}
+
 // Whether a line begins with a key of this name, or is the header of its table.
 fn begins_with_key(line: &str, name: &str) -> bool {
     let line = line.trim_start_matches(&[' ', '\t', '[', '"', '\'']);
@@ -40,6 +61,34 @@ pub fn line_of_key(text: &str, name: &str) -> Option<usize> {
     text.lines()
         .position(|line| begins_with_key(line, name))?
         .checked_add(1)
+}
+
+/// Whether a text seems to be a parameter file: lines of it begin with two of the keys at least.
+pub fn has_keys(text: &str) -> bool {
+    let keys = KEYS.iter().filter(|name| line_of_key(text, name).is_some());
+    keys.count() >= FEWEST_KEYS
+}
+
+// The place of the key with which a line begins, but for the headers of tables.
+fn key_in(line: &str) -> Option<usize> {
+    if is_header(line) {
+        return None;
+    }
+    KEYS.iter().position(|name| begins_with_key(line, name))
+}
+
+/// The first key that stands in a table, though its place is before the first one.
+pub fn misplaced_key_in(text: &str) -> Option<MisplacedKey> {
+    let header = text.lines().position(is_header)?;
+    for (above, line) in text.lines().enumerate().skip(header) {
+        if let Some(place) = key_in(line) {
+            return Some(MisplacedKey {
+                place,
+                line: above.checked_add(1)?,
+            });
+        }
+    }
+    None
 }
 
 // The name with which a line begins, of a key or of a table.

@@ -5,7 +5,9 @@ ghost use Rattle.seatmelon_commands.specs.Failing.{TellsWords};
 
 use crate::failure::Failure;
 use crate::file_kind::{FileKind, kind_of_start};
-use crate::key_lines::{line_of_key, line_of_place};
+use crate::key_lines::{
+    MisplacedKey, has_keys, line_of_key, line_of_place, misplaced_key_in, place_of_key,
+};
 use crate::unknown_key::{UnknownKey, unknown_key};
 use rasta_params::params;
 use rasta_pdu::{Fault, Params};
@@ -27,10 +29,21 @@ pub struct ParameterRefusal {
     line: Option<usize>,
     // A key that no parameter file has, where one is missing or unknown.
     unknown: Option<UnknownKey>,
+    // A key that stands in a table, if that is why another one is missing or has a wrong value.
+    misplaced: Option<MisplacedKey>,
     // What is wrong with a text that is no TOML document.
     error: Option<toml::de::Error>,
     kind: FileKind,
+    // Whether the text seems to be a parameter file.
+    has_keys: bool,
+    // Whether the file wasn't named, but its folder.
+    is_of_folder: bool,
 }
+
+// The numbers of the keys that hold tables.
+const CHANNEL: u32 = 11;
+
+const QUIET: u32 = 13;
 
 impl Key {
     const fn new(name: &'static str, form: &'static str) -> Key {
@@ -78,8 +91,33 @@ fn unknown_by(alloc: Global, text: &str, fault: Fault) -> Result<Option<UnknownK
     }
 }
 
+// The key that seems to be missing, but stands in a table.
+fn missing_in(text: &str, fault: Fault) -> Option<MisplacedKey> {
+    let name = key_of(fault.place)?.name;
+    let line = line_of_key(text, name)?;
+    let place = place_of_key(name)?;
+    Some(MisplacedKey { place, line })
+}
+
+// The key of a text that stands in a table, if that is what a fault comes from.
+fn misplaced_by(text: &str, fault: Fault) -> Option<MisplacedKey> {
+    match fault.place {
+        CHANNEL | QUIET => misplaced_key_in(text),
+        _ if fault.number == Fault::MISSING_KEY => missing_in(text, fault),
+        _ => None,
+    }
+}
+
 // The line of a parameter file at which a fault seems to be.
-fn line_of(text: &str, fault: Fault, unknown: Option<&UnknownKey>) -> Option<usize> {
+fn line_of(
+    text: &str,
+    fault: Fault,
+    unknown: Option<&UnknownKey>,
+    misplaced: Option<MisplacedKey>,
+) -> Option<usize> {
+    if let Some(key) = misplaced {
+        return Some(key.line);
+    }
     match key_of(fault.place) {
         Some(key) => line_of_key(text, key.name),
         None => unknown.map(|unknown| unknown.line),
@@ -93,8 +131,11 @@ impl ParameterRefusal {
             fault,
             line: None,
             unknown: None,
+            misplaced: None,
             error: None,
             kind: kind_of_start(text),
+            has_keys: str::from_utf8(text).is_ok_and(has_keys),
+            is_of_folder: false,
         };
         if fault.number == Fault::TOML {
             refusal.error = toml::table_from_slice(alloc, text).err();
@@ -104,25 +145,25 @@ impl ParameterRefusal {
                 .and_then(|span| line_of_place(text, span.start));
         } else if let Ok(text) = str::from_utf8(text) {
             refusal.unknown = unknown_by(alloc, text, fault)?;
-            refusal.line = line_of(text, fault, refusal.unknown.as_ref());
+            refusal.misplaced = misplaced_by(text, fault);
+            refusal.line = line_of(text, fault, refusal.unknown.as_ref(), refusal.misplaced);
         }
         Ok(refusal)
     }
 
-    // Whether a key is missing, although a line begins with it: in a table, where it has no effect.
-    fn is_in_a_table(&self) -> bool {
-        self.fault.number == Fault::MISSING_KEY && self.fault.place <= 10 && self.line.is_some()
+    /// The same of a file that wasn't named, but its folder: where it seems to be no parameter file, its text says how to
+    /// leave it out.
+    pub fn of_folder(self) -> ParameterRefusal {
+        ParameterRefusal {
+            is_of_folder: true,
+            ..self
+        }
     }
 
     // What is wrong with the value of a key.
     fn write_key<W: fmt::Write>(&self, f: &mut fmt::Formatter<W>, key: Key) -> fmt::Result {
         let Key { name, form } = key;
-        if self.is_in_a_table() {
-            write!(
-                f,
-                "{name} stands in a table; it must stand before the first one"
-            )
-        } else if self.fault.number == Fault::MISSING_KEY && self.line.is_none() {
+        if self.fault.number == Fault::MISSING_KEY && self.line.is_none() {
             write!(f, "{name} is missing; it must be {form}")
         } else {
             write!(f, "{name} must be {form}")
@@ -130,6 +171,12 @@ impl ParameterRefusal {
     }
 
     fn write_reason<W: fmt::Write>(&self, f: &mut fmt::Formatter<W>) -> fmt::Result {
+        if let Some(name) = self.misplaced_name() {
+            return write!(
+                f,
+                "{name} stands in a table; it must stand before the first one"
+            );
+        }
         match (self.error, key_of(self.fault.place)) {
             (Some(error), _) => {
                 let message = error.message();
@@ -152,6 +199,33 @@ impl ParameterRefusal {
             _ => Ok(()),
         }
     }
+
+    // The name of the key that stands in a table, if that is what is wrong.
+    fn misplaced_name(&self) -> Option<&'static str> {
+        match &self.misplaced {
+            Some(key) => key.name(),
+            None => None,
+        }
+    }
+
+    // What else the file seems to be, and how to leave it out.
+    fn write_advice<W: fmt::Write>(&self, f: &mut fmt::Formatter<W>) -> fmt::Result {
+        if matches!(
+            self.kind,
+            FileKind::Capture | FileKind::Gzip | FileKind::Pcapng
+        ) {
+            f.write_str(
+                "\nthis looks like a capture, where a parameter file is wanted: CAPTURE stands first, then PARAMS",
+            )?;
+        }
+        if self.is_of_folder && !self.has_keys {
+            f.write_str(
+                "\nthis doesn't look like a parameter file; to leave it out, name the others in place of the folder, \
+                 or move it, or rename it so that its name doesn't end in .toml",
+            )?;
+        }
+        Ok(())
+    }
 }
 
 impl fmt::Display for ParameterRefusal {
@@ -164,13 +238,7 @@ impl fmt::Display for ParameterRefusal {
         let name = self.fault.name();
         write!(f, " ({number} {name})")?;
         self.write_unknown(f)?;
-        match self.kind {
-            FileKind::Capture | FileKind::Gzip | FileKind::Pcapng => write!(
-                f,
-                "\nthis looks like a capture: are CAPTURE and PARAMS swapped?"
-            ),
-            FileKind::Text | FileKind::Other => Ok(()),
-        }
+        self.write_advice(f)
     }
 }
 

@@ -54,6 +54,20 @@ pub fn refused<D>(
     }
 }
 
+/// What a survey is written as.
+#[derive(Clone, Copy)]
+pub enum SurveyForm {
+    Text,
+    Json,
+}
+
+/// What is to be surveyed: the path of a capture, and what is written.
+#[derive(Clone, Copy)]
+pub struct Surveying<'a> {
+    pub capture: &'a str,
+    pub form: SurveyForm,
+}
+
 // Why a file isn't surveyed, and its header, as far as it was read.
 #[derive(Clone, Copy)]
 struct Unsurveyed {
@@ -155,22 +169,29 @@ pub fn status_of_survey(survey: &Survey) -> u8
 }
 
 /// Writes a survey to standard output.
-pub fn write_survey<R: AllocGlobal + Print>(rt: &R, survey: &Survey) -> Result<(), Failure>
+pub fn write_survey<R: AllocGlobal + Print>(
+    rt: &R,
+    survey: &Survey,
+    form: SurveyForm,
+) -> Result<(), Failure>
     ensures { IfErr result (λ failure. status_of failure ≡ 3) }
 {
-    let answer = Answer::Survey(survey);
+    let answer = match form {
+        SurveyForm::Text => Answer::Survey(survey),
+        SurveyForm::Json => Answer::SurveyJson(survey),
+    };
     write_answer(rt.alloc(), STANDARD_OUTPUT, &answer, io::writer(rt))
 }
 
-/// Surveys the capture of that path, and writes the survey to standard output. Answers the program's status.
+/// Surveys a capture, and writes the survey to standard output. Answers the program's status.
 pub fn survey_file<R: AllocGlobal + Files + Input + Print>(
     rt: &R,
-    path: &str,
+    surveying: &Surveying<'_>,
 ) -> Result<u8, Failure>
     ensures ok { IfOk result (λ status. status ≤ 1) }
     ensures err { IfErr result (λ failure. IsOfFiles failure) }
 {
-    let survey = survey_at(rt, path, None)?;
-    write_survey(rt, &survey)?;
+    let survey = survey_at(rt, surveying.capture, None)?;
+    write_survey(rt, &survey, surveying.form)?;
     Ok(status_of_survey(&survey))
 }

@@ -1,5 +1,5 @@
 -- A packet beside a connection: which end sent it, what it repeats or begins, and whether it is a late copy.
-use Rattle.std.specs.Prelude.{◌≡◌, ℕ, Bool, false, not, ◌==◌, ◌&&◌, ◌||◌, if◌then◌else◌, Option, Some, None}
+use Rattle.std.specs.Prelude.{◌≡◌, ℕ, Bool, false, not, ◌==◌, ◌&&◌, ◌||◌, if◌then◌else◌, Option, Some, None, is_none, is_some}
 use Rattle.std.specs.Option.{option_map, option_map_or}
 use Rattle.rasta_pdu.specs.declared.kind.Kind.{Kind}
 use Rattle.rasta_pdu.specs.declared.kind.Kind.TheVariants.{ConnectionRequest, ConnectionResponse, RetransmissionRequest}
@@ -15,9 +15,10 @@ use Rattle.seatmelon_connections.specs.declared.late_copies.Arrival.TheVariants.
 use Rattle.seatmelon_connections.specs.declared.late_copies.LateCopies.{LateCopies}
 use Rattle.seatmelon_connections.specs.declared.numbers.Numbers.{Numbers}
 use Rattle.seatmelon_connections.specs.declared.numbers.Sighting.{Sighting}
+use Rattle.seatmelon_connections.specs.Hosts.{knows_host, other_end}
 use Rattle.seatmelon_connections.specs.LateCopies.{is_late, late_copies_after}
-use Rattle.seatmelon_connections.specs.Noted.{has_ending_in, last_record_in}
-use Rattle.seatmelon_connections.specs.Sightings.{goes_on, is_copy, is_too_old, sighting_in}
+use Rattle.seatmelon_connections.specs.Noted.{has_ending_in, last_record_in, opened_before_in}
+use Rattle.seatmelon_connections.specs.Sightings.{can_confirm, can_have_sent, goes_on, has_sent, is_copy, is_too_old, precedes, sighting_in}
 
 -- ---- a packet beside a connection
 
@@ -76,12 +77,41 @@ has_same_numbers r s = (r.number == s.number) && (r.sn == s.sn)
 abbrev pub is_opened_by : Connection → Packet → Bool
 is_opened_by c p = option_map_or (λ r. option_map_or (is_same_request r) c.request false) (request_in p) false
 
+-- a packet is a connection request from before the capture, where none was captured: its end sent it before what it sent
+-- in the connection
+abbrev pub is_late_opening : Connection → Packet → Bool
+is_late_opening c p =
+    (is_none c.request && is_some (request_in p))
+    && option_map_or (λ end. precedes (numbers_of c end) p) (sender_in c p) false
+
 -- a packet that opened no connection begins one after this: it is a connection request, and this one has ended or its
--- request has other numbers
+-- request has other numbers; if that wasn't captured, the packet is no late copy of it
 abbrev pub is_followed_by : Connection → Packet → Bool
 is_followed_by c p =
     option_map_or (λ r. has_ending_in c
-    || not (option_map_or (has_same_numbers r) c.request false)) (request_in p) false
+    || not (option_map_or (has_same_numbers r) c.request (is_late_opening c p))) (request_in p) false
+
+-- only late copies of the connection request were captured, also after the connection took a packet in
+abbrev pub opened_before_with : Connection → Packet → Bool
+opened_before_with c p = opened_before_in c || is_late_opening c p
+
+-- ---- whether a packet can be of a connection
+
+-- a packet can be of the course of an end: the end can have sent it, and if it sent nothing yet, the packet can confirm
+-- one of the other end
+abbrev pub can_be_of : Connection → End → Packet → Bool
+can_be_of c end p =
+    can_have_sent (numbers_of c end) p
+    && (has_sent (numbers_of c end) || can_confirm (numbers_of c (other_end end)) p)
+
+-- a packet that an end sent can be of the connection: by its hosts, as a copy of the opening, or by the course of its end
+abbrev pub can_have_from : Connection → Packet → End → Bool
+can_have_from c p end = knows_host c.channels.counts.items end p.way.route || (is_opened_by c p || can_be_of c end p)
+
+-- a packet can be of the connection: it is between its ends, and one of its hosts has an address that its end has there,
+-- or it repeats the opening, or it can be of the course of its end
+abbrev pub can_have : Connection → Packet → Bool
+can_have c p = option_map_or (can_have_from c p) (sender_in c p) false
 
 -- a connection keeps its ends and its request
 pub record HasSameOpening (old new : Connection) : Type 0 where

@@ -1,5 +1,6 @@
 pub mod Numbers
 pub mod Sightings
+pub mod Hosts
 pub mod LateCopies
 pub mod Noted
 pub mod Comparing

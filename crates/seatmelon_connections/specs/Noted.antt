@@ -28,6 +28,10 @@ request_of c = c.request
 abbrev pub has_opening_in : Connection → Bool
 has_opening_in c = is_some c.request
 
+-- of the connection request only late copies were captured
+abbrev pub opened_before_in : Connection → Bool
+opened_before_in c = c.is_opened_before
+
 -- an end's disconnection request was captured
 abbrev pub has_ending_in : Connection → Bool
 has_ending_in c = is_some c.first.ending || is_some c.second.ending

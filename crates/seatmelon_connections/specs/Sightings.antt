@@ -1,6 +1,7 @@
 -- What a packet is among those of its end, by its number and its bytes.
-use Rattle.std.specs.Prelude.{ℕ, ◌+◌, ◌-◌, ◌%◌, ◌^◌, Bool, true, false, ◌==◌, ◌||◌, nat_lt, if◌then◌else◌, Option, Some}
-use Rattle.std.specs.Prelude.{None, slice_get, unwrap_or}
+use Rattle.std.specs.Prelude.{ℕ, ◌+◌, ◌-◌, ◌%◌, ◌^◌, Bool, true, false, not, ◌==◌, ◌&&◌, ◌||◌, nat_le, nat_lt, if◌then◌else◌, Option}
+use Rattle.std.specs.Prelude.{Some, None, is_some, slice_get, unwrap_or}
+use Rattle.seatmelon_connections.specs.declared.numbers.Latest.{Latest}
 use Rattle.seatmelon_connections.specs.declared.numbers.Numbers.{Numbers}
 use Rattle.seatmelon_connections.specs.declared.numbers.Remembered.{Remembered}
 use Rattle.seatmelon_connections.specs.declared.numbers.Sighting.{Sighting}
@@ -70,3 +71,74 @@ is_too_old (DifferingCopy first) = false
 -- a packet of an end goes on with what it sent: it has the expected number, or repeats an earlier one byte for byte
 abbrev pub goes_on : Numbers → Packet → Bool
 goes_on n p = (p.number == expected_number n p) || is_copy (sighting_in n p)
+
+-- a packet differs from an earlier one of its number
+abbrev pub is_differing : Sighting → Bool
+is_differing (DifferingCopy first) = true
+is_differing First = false
+is_differing Late = false
+is_differing (Copy first) = false
+is_differing TooOld = false
+
+-- ---- the course of an end
+
+abbrev pub is_ahead : Standing → Bool
+is_ahead (Ahead n) = true
+is_ahead Expected = false
+is_ahead (Behind n) = false
+
+abbrev pub is_behind : Standing → Bool
+is_behind (Behind n) = true
+is_behind Expected = false
+is_behind (Ahead n) = false
+
+-- a number is ahead of the expected one, or behind it, by no more than 256
+abbrev pub is_near : Standing → Bool
+is_near Expected = true
+is_near (Ahead n) = nat_le n 256
+is_near (Behind n) = nat_le n 256
+
+-- how far the SN of a packet is ahead of its number: an end counts both up by one for each packet
+abbrev pub lead_of : Packet → ℕ
+lead_of p = ahead_of p.number p.sn
+
+-- an end has sent a packet
+abbrev pub has_sent : Numbers → Bool
+has_sent n = is_some n.latest
+
+-- a packet is near those of an end by its number, differs from none of that number, and its SN is as far ahead of its
+-- number as that of the end's latest one
+abbrev pub is_of_course : Numbers → Packet → Latest → Bool
+is_of_course n p latest =
+    is_near (standing_in p.number (expected_number n p))
+    && (not (is_differing (sighting_in n p)) && (lead_of p == latest.lead))
+
+-- an end can have sent a packet, by its latest one: the packet repeats one of the end, or is of its course
+abbrev pub can_have_sent_by : Numbers → Packet → Option Latest → Bool
+can_have_sent_by n p None = true
+can_have_sent_by n p (Some latest) = is_copy (sighting_in n p) || is_of_course n p latest
+
+-- an end can have sent a packet in the course of its others; if it sent none, any
+abbrev pub can_have_sent : Numbers → Packet → Bool
+can_have_sent n p = can_have_sent_by n p n.latest
+
+-- a packet confirms an SN whose PDU has a number that is near the expected one
+abbrev pub confirms_near : Packet → Option Latest → Option ℕ → Bool
+confirms_near p (Some latest) (Some expected) = is_near (standing_in (ahead_of latest.lead p.cs) expected)
+confirms_near p (Some latest) None = false
+confirms_near p None expected = false
+
+-- a packet of the other end can confirm one of an end
+abbrev pub can_confirm : Numbers → Packet → Bool
+can_confirm n p = confirms_near p n.latest n.expected
+
+-- an end sent a packet before its latest one: the packet's number is behind, none of that number differs from it, its SN
+-- is as far ahead of its number, and its TS isn't later
+abbrev pub precedes_latest : Numbers → Packet → Option Latest → Bool
+precedes_latest n p None = false
+precedes_latest n p (Some latest) =
+    is_behind (standing_in p.number (expected_number n p))
+    && (not (is_differing (sighting_in n p)) && ((lead_of p == latest.lead) && not (is_ahead (standing_in p.ts latest.ts))))
+
+abbrev pub precedes : Numbers → Packet → Bool
+precedes n p = precedes_latest n p n.latest

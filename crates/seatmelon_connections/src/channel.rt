@@ -1,6 +1,7 @@
 //! The channels of a connection.
 ghost use Rattle.std.specs.Prelude.{◌≡◌, ◌≤◌, IfErr, vec_capacity};
 ghost use Rattle.rasta_pcap.specs.Fault.{no_memory};
+ghost use Rattle.seatmelon_connections.specs.Hosts.{channel_of, knows_host, other_end, reversed, shares_host};
 
 use rasta_pcap::Fault;
 use rasta_udp::Channel;
@@ -19,6 +20,18 @@ pub enum End {
     Second,
 }
 
+impl End {
+    /// The other one.
+    pub(crate) fn other(self) -> End
+        ensures { result ≡ other_end self }
+    {
+        match self {
+            End::First => End::Second,
+            End::Second => End::First,
+        }
+    }
+}
+
 /// How many packets crossed on a channel in each direction, and in which record the first one. Its client is
 /// the first end.
 #[derive(Clone, Copy)]
@@ -30,7 +43,9 @@ pub struct ChannelCounts {
 }
 
 /// The channel with its ends exchanged.
-pub fn reversed(channel: &Channel) -> Channel {
+pub fn reversed(channel: &Channel) -> Channel
+    ensures { result ≡ reversed channel.now }
+{
     Channel {
         client: channel.server,
         server: channel.client,
@@ -38,11 +53,20 @@ pub fn reversed(channel: &Channel) -> Channel {
 }
 
 /// The channel of a packet that this end sent on this way.
-pub fn channel_of(sender: End, route: &Channel) -> Channel {
+pub fn channel_of(sender: End, route: &Channel) -> Channel
+    ensures { result ≡ channel_of sender route.now }
+{
     match sender {
         End::First => *route,
         End::Second => reversed(route),
     }
+}
+
+// Whether an end has the same address on both channels.
+fn shares_host(one: &Channel, other: &Channel) -> bool
+    ensures { result ≡ shares_host one.now other.now }
+{
+    one.client.address == other.client.address || one.server.address == other.server.address
 }
 
 impl ChannelCounts {
@@ -97,6 +121,17 @@ impl Channels {
         self.counts
             .iter()
             .position(|counts| counts.channel == channel)
+    }
+
+    /// Whether one of the two hosts between which this end sends on this way has an address that its end has on one of
+    /// these channels.
+    pub(crate) fn knows_host(&self, sender: End, route: &Channel) -> bool
+        ensures { result ≡ knows_host self.now.counts.items sender route.now }
+    {
+        let channel = channel_of(sender, route);
+        self.counts
+            .iter()
+            .any(|counts| shares_host(&counts.channel, &channel))
     }
 
     /// Counts a packet in this record that this end sent on this way. No memory is taken.

@@ -41,6 +41,9 @@ fn request_in(packet: &Packet) -> Option<Request>
 #[derive(Drop)]
 pub struct Connection {
     request: Option<Request>,
+
+    // Whether a late copy of a request from before the capture was taken in.
+    is_opened_before: bool,
     pub(crate) first: Party,
     pub(crate) second: Party,
     pub(crate) channels: Channels,
@@ -60,8 +63,8 @@ pub struct Connection {
 }
 
 impl Connection {
-    ghost use Rattle.seatmelon_connections.specs.Comparing.{HasSameOpening, goes_on_with, is_claimed, is_copy_in, is_followed_by, is_late_copy, is_opened_by, late_copies_with, last_record_with, numbers_of, sender_in, sighting_by};
-    ghost use Rattle.seatmelon_connections.specs.Noted.{first_id_in, first_record_in, has_ending_in, has_opening_in, lacks_quiet_point_in, last_record_in, late_copies_in, quiet_from_in, repeated_in, request_of, second_id_in, with_repeated};
+    ghost use Rattle.seatmelon_connections.specs.Comparing.{HasSameOpening, can_be_of, can_have, goes_on_with, is_claimed, is_copy_in, is_followed_by, is_late_copy, is_late_opening, is_opened_by, late_copies_with, last_record_with, numbers_of, opened_before_with, sender_in, sighting_by};
+    ghost use Rattle.seatmelon_connections.specs.Noted.{first_id_in, first_record_in, has_ending_in, has_opening_in, lacks_quiet_point_in, last_record_in, late_copies_in, opened_before_in, quiet_from_in, repeated_in, request_of, second_id_in, with_repeated};
 
     /// A connection that begins with this packet, which is still to be taken in ([`Connection::add`]). If a record is
     /// given, its draft has a quiet point behind that record, where only packets from there on are looked at.
@@ -81,6 +84,7 @@ impl Connection {
         };
         Ok(Connection {
             request,
+            is_opened_before: false,
             first: Party::new(alloc, packet.way.sender)?,
             second: Party::new(alloc, packet.way.receiver)?,
             channels: Channels::new(alloc)?,
@@ -162,6 +166,13 @@ impl Connection {
         self.request.is_some()
     }
 
+    /// Whether it was opened before the capture began: of its connection request only late copies were captured.
+    pub fn was_opened_before(&self) -> bool
+        ensures { result ≡ opened_before_in self.now }
+    {
+        self.is_opened_before
+    }
+
     /// Whether a disconnection request was captured.
     pub fn has_ending(&self) -> bool
         ensures { result ≡ has_ending_in self.now }
@@ -215,8 +226,48 @@ impl Connection {
         }
     }
 
+    // Whether a packet between these ends can be one of those of this end: the end can have sent it in its course, and
+    // where it sent nothing yet, the packet can confirm one of the other end.
+    fn can_be_of(&self, sender: End, packet: &Packet) -> bool
+        ensures { result ≡ can_be_of self.now sender packet.now }
+    {
+        let own = &self.party(sender).numbers;
+        let others = &self.party(sender.other()).numbers;
+        own.can_have_sent(packet) && (own.has_sent() || others.can_confirm(packet))
+    }
+
+    /// Whether a packet can be of this connection: it is between its ends, and either goes between hosts of which one
+    /// has an address that its end has here, or repeats the connection's opening, or can be of the course of its end.
+    pub fn can_have(&self, packet: &Packet) -> bool
+        ensures { result ≡ can_have self.now packet.now }
+    {
+        match self.sender_of(packet) {
+            Some(sender) => {
+                self.channels.knows_host(sender, &packet.way.route)
+                    || self.is_opened_by(packet)
+                    || self.can_be_of(sender, packet)
+            }
+            None => false,
+        }
+    }
+
+    // Whether a packet between these ends is a connection request from before the capture, where none was captured: its
+    // end sent it before what it sent here.
+    fn is_late_opening(&self, packet: &Packet) -> bool
+        ensures { result ≡ is_late_opening self.now packet.now }
+    {
+        if self.has_opening() || request_in(packet).is_none() {
+            return false;
+        }
+        match self.sender_of(packet) {
+            Some(sender) => self.party(sender).numbers.precedes(packet),
+            None => false,
+        }
+    }
+
     /// Whether a packet between these ends, which opened no earlier connection, begins another one: a connection
-    /// request after the end of this one, or one that has other numbers than its own.
+    /// request after the end of this one, or one that has other numbers than its own. Where its own wasn't captured, one
+    /// that its end sent before what it sent here is a late copy of it, and begins none.
     pub fn is_followed_by(&self, packet: &Packet) -> bool
         ensures { result ≡ is_followed_by self.now packet.now }
     {
@@ -225,7 +276,7 @@ impl Connection {
         };
         let has_own_numbers = match self.request {
             Some(own) => own.number == request.number && own.sn == request.sn,
-            None => false,
+            None => self.is_late_opening(packet),
         };
         self.has_ending() || !has_own_numbers
     }
@@ -320,6 +371,8 @@ impl Connection {
         ensures same { HasSameOpening self.old self.new }
         ensures repeated { repeated_in self.new ≡ repeated_in self.old }
         ensures quiet { quiet_from_in self.new ≡ quiet_from_in self.old }
+        ensures opened_before { IsSome (sender_in self.old packet.now)
+            → opened_before_in self.new ≡ opened_before_with self.old packet.now }
     {
         let Some(sender) = self.sender_of(packet) else {
             return;
@@ -327,6 +380,7 @@ impl Connection {
         self.channels.add(sender, &packet.way.route, packet.record);
         self.lengths.add(&packet.fits);
         self.note_record(packet, arrival);
+        self.note_opening(packet);
         let sighting = self.add_to_party(sender, packet);
         if let Some(quiet) = &mut self.quiet {
             quiet.add(sender, packet, sighting);
@@ -340,6 +394,7 @@ impl Connection {
         ensures same { HasSameOpening self.old self.new }
         ensures repeated { self.new.repeated ≡ self.old.repeated }
         ensures quiet { self.new.quiet ≡ self.old.quiet }
+        ensures opened_before { opened_before_with self.new packet.now ≡ opened_before_with self.old packet.now }
     {
         let is_late_copy = self.is_late_copy(packet, arrival);
         if is_late_copy {
@@ -352,12 +407,20 @@ impl Connection {
         }
     }
 
+    // Keeps whether a packet is a late copy of an opening from before the capture.
+    fn note_opening(&mut self, packet: &Packet)
+        ensures { self.new ≡ record self.old { is_opened_before = opened_before_with self.old packet.now } }
+    {
+        self.is_opened_before = self.is_opened_before || self.is_late_opening(packet);
+    }
+
     fn add_to_party(&mut self, sender: End, packet: &Packet) -> Sighting
         ensures late_copies { self.new.late_copies ≡ self.old.late_copies }
         ensures last_record { last_record_in self.new ≡ last_record_in self.old }
         ensures same { HasSameOpening self.old self.new }
         ensures repeated { self.new.repeated ≡ self.old.repeated }
         ensures quiet { self.new.quiet ≡ self.old.quiet }
+        ensures opened_before { opened_before_in self.new ≡ opened_before_in self.old }
     {
         match sender {
             End::First => self.first.add(packet),

@@ -1,8 +1,8 @@
 //! The redundancy layer's numbers of an end.
-ghost use Rattle.std.specs.Prelude.{◌≡◌, ◌%◌, ◌==◌, IfErr};
+ghost use Rattle.std.specs.Prelude.{◌≡◌, ◌%◌, ◌==◌, IfErr, is_some};
 ghost use Rattle.rasta_pcap.specs.Fault.{no_memory};
 ghost use Rattle.seatmelon_connections.specs.Numbers.{IsStanding};
-ghost use Rattle.seatmelon_connections.specs.Sightings.{compared, expected_number, is_copy, remembered_at, sighting_in, standing_in};
+ghost use Rattle.seatmelon_connections.specs.Sightings.{can_confirm, can_have_sent, compared, expected_number, has_sent, is_ahead, is_behind, is_copy, is_differing, is_near, lead_of, precedes, remembered_at, sighting_in, standing_in};
 
 use rasta_pcap::Fault;
 use seatmelon_packets::Packet;
@@ -40,6 +40,13 @@ impl Sighting {
     {
         matches!(self, Sighting::Copy { .. })
     }
+
+    // Whether the packet differs from an earlier one of its number.
+    fn is_differing(&self) -> bool
+        ensures { result ≡ is_differing self.now }
+    {
+        matches!(self, Sighting::DifferingCopy { .. })
+    }
 }
 
 // Where a number stands beside the one that is expected.
@@ -48,6 +55,32 @@ enum Standing {
     Expected,
     Ahead(u32),
     Behind(u32),
+}
+
+impl Standing {
+    // Whether the number is ahead.
+    fn is_ahead(&self) -> bool
+        ensures { result ≡ is_ahead self.now }
+    {
+        matches!(self, Standing::Ahead(_))
+    }
+
+    // Whether the number is behind.
+    fn is_behind(&self) -> bool
+        ensures { result ≡ is_behind self.now }
+    {
+        matches!(self, Standing::Behind(_))
+    }
+
+    // Whether the number is ahead or behind by no more than are remembered.
+    fn is_near(&self) -> bool
+        ensures { result ≡ is_near self.now }
+    {
+        match self {
+            Standing::Expected => true,
+            Standing::Ahead(distance) | Standing::Behind(distance) => *distance <= REMEMBERED,
+        }
+    }
 }
 
 fn standing_of(number: u32, expected: u32) -> Standing
@@ -78,6 +111,20 @@ fn remembered_of(packet: &Packet) -> Remembered {
         number: packet.number,
         hash: packet.hash,
     }
+}
+
+// What an end's packet of the highest number says: how far its SN is ahead of its number, and its TS.
+#[derive(Clone, Copy)]
+struct Latest {
+    lead: u32,
+    ts: u32,
+}
+
+// How far the SN of a packet is ahead of its number: an end counts both up by one for each packet.
+fn lead_of(packet: &Packet) -> u32
+    ensures { result ≡ lead_of packet.now }
+{
+    packet.sn.wrapping_sub(packet.number)
 }
 
 /// A gap: the first number that is missing, and the record that shows it.
@@ -123,6 +170,7 @@ const NOTHING: NumberCounts = NumberCounts {
 #[derive(Drop)]
 pub struct Numbers {
     expected: Option<u32>,
+    latest: Option<Latest>,
     remembered: Vec<Option<Remembered>>,
     counts: NumberCounts,
 }
@@ -144,6 +192,7 @@ impl Numbers {
         remembered.resize(REMEMBERED as usize, None)?;
         Ok(Numbers {
             expected: None,
+            latest: None,
             remembered,
             counts: NOTHING,
         })
@@ -179,6 +228,55 @@ impl Numbers {
         }
     }
 
+    /// Whether a packet was taken in.
+    pub(crate) fn has_sent(&self) -> bool
+        ensures { result ≡ has_sent self.now }
+    {
+        self.latest.is_some()
+    }
+
+    /// Whether the end can have sent a packet in the course of those that were taken in: the packet repeats one of them
+    /// byte for byte; or it is near them by its number, differs from none of that number, and its SN is as far ahead of
+    /// its number as before. Before the first packet it can have sent any.
+    pub(crate) fn can_have_sent(&self, packet: &Packet) -> bool
+        ensures { result ≡ can_have_sent self.now packet.now }
+    {
+        let Some(latest) = self.latest else {
+            return true;
+        };
+        let sighting = self.sighting_of(packet);
+        let standing = standing_of(packet.number, self.expected_at(packet));
+        sighting.is_copy()
+            || (standing.is_near() && !sighting.is_differing() && lead_of(packet) == latest.lead)
+    }
+
+    /// Whether a packet of the other end can confirm one of this end: the PDU of the SN that it confirms is near those
+    /// that were taken in.
+    pub(crate) fn can_confirm(&self, packet: &Packet) -> bool
+        ensures { result ≡ can_confirm self.now packet.now }
+    {
+        match (self.latest, self.expected) {
+            (Some(latest), Some(expected)) => {
+                standing_of(packet.cs.wrapping_sub(latest.lead), expected).is_near()
+            }
+            _ => false,
+        }
+    }
+
+    /// Whether the end sent a packet before the latest one that was taken in: its number is behind, none of that number
+    /// differs from it, its SN is as far ahead of its number, and its TS isn't later.
+    pub(crate) fn precedes(&self, packet: &Packet) -> bool
+        ensures { result ≡ precedes self.now packet.now }
+    {
+        let Some(latest) = self.latest else {
+            return false;
+        };
+        standing_of(packet.number, self.expected_at(packet)).is_behind()
+            && !self.sighting_of(packet).is_differing()
+            && lead_of(packet) == latest.lead
+            && !standing_of(packet.ts, latest.ts).is_ahead()
+    }
+
     /// Takes the number of a packet in, and says what the packet is.
     pub(crate) fn add(&mut self, packet: &Packet) -> Sighting
         ensures { result ≡ sighting_in self.old packet.now }
@@ -206,6 +304,10 @@ impl Numbers {
             self.add_gap(packet, expected, missing);
         }
         self.expected = Some(packet.number.wrapping_add(1));
+        self.latest = Some(Latest {
+            lead: lead_of(packet),
+            ts: packet.ts,
+        });
         self.remember(packet);
     }
 

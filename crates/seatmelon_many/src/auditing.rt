@@ -152,6 +152,20 @@ fn audit_capture<R: AllocGlobal + Clock + Eprint + Files + Input + Print>(
     }
 }
 
+// Tells on standard error what can be done where a capture is refused for its link type.
+fn advise_on_frames<R: Eprint>(rt: &R, path: &str, fault: Option<Fault>) {
+    let Some(fault) = fault else {
+        return;
+    };
+    if fault.number == Fault::LINK_TYPE {
+        // Where standard error fails too, the text has told what is wrong.
+        let _ = eprintln!(rt;
+            "seatmelon: {path}: the frames are not Ethernet frames; if Linux's device 'any' captured them, make such \
+             frames of them: seatmelon convert CAPTURE > OUT"
+        );
+    }
+}
+
 /// Reads and judges all parameter files, and audits the capture for them on standard output. Where one of them is refused
 /// or can't be read, standard error is told of each, and the capture isn't opened. If `is_told`, standard error says how
 /// many megabytes were read of a capture that takes longer than a second. Answers the program's status.
@@ -170,5 +184,6 @@ pub fn audit_files<R: AllocGlobal + Clock + Clone + Drop + Eprint + Files + Inpu
     };
     let audited = audit_capture(rt, auditing, files.names(), params.as_slice(), is_told)?;
     advise(rt, auditing.capture, audited.kind);
+    advise_on_frames(rt, auditing.capture, audited.audit.fault);
     Ok(status_of(&audited.audit))
 }

@@ -3,8 +3,8 @@ ghost use Rattle.std.specs.Prelude.{◌≡◌, ◌≤◌, IfErr, IfOk};
 ghost use Rattle.seatmelon_commands.specs.Failing.{status_of, IsOfFiles};
 
 use seatmelon_commands::{
-    Answer, Draft, Failure, status_of_survey, survey_at, tell_fault, unwritten, unwritten_at,
-    write_answer, write_survey,
+    Answer, Draft, Failure, SurveyForm, status_of_survey, survey_at, tell_fault, unwritten,
+    unwritten_at, write_answer, write_survey,
 };
 use seatmelon_survey::{Connection, Survey};
 use std::alloc::{AllocError, Global};
@@ -91,7 +91,7 @@ pub fn draft_all<R: AllocGlobal + Eprint + Files + Input + Print>(
 {
     let survey = survey_at(rt, drafting.capture, None)?;
     if survey.connections().is_empty() {
-        write_survey(rt, &survey)?;
+        write_survey(rt, &survey, SurveyForm::Text)?;
     } else {
         write_drafts(rt, drafting.folder, &survey)?;
         tell_fault(rt, drafting.capture, &survey);

@@ -14,10 +14,23 @@ pub const MOST_FILES: usize = 4096;
 // How a parameter file of a folder is called.
 const EXTENSION: &str = "toml";
 
+/// How a parameter file was named.
+#[derive(Clone, Copy, PartialEq, Eq)]
+pub enum Origin {
+    /// By itself.
+    Named,
+
+    /// By its folder.
+    Folder,
+}
+
 /// The paths of parameter files, in their order: at most 4,096.
 #[derive(Drop)]
 pub struct ParameterFiles {
     names: Vec<String>,
+
+    // How each of them was named.
+    origins: Vec<Origin>,
     ghost many: { length names.items ≤ 4096 },
 }
 
@@ -27,6 +40,7 @@ impl ParameterFiles {
     fn new(alloc: Global) -> ParameterFiles {
         ParameterFiles {
             names: Vec::new(alloc),
+            origins: Vec::new(alloc),
         }
     }
 
@@ -37,16 +51,24 @@ impl ParameterFiles {
         self.names.as_slice()
     }
 
-    // Adds the file of that path.
-    fn add(&mut self, path: String) -> Result<(), Failure>
+    /// How the file at this place was named.
+    pub fn origin(&self, place: usize) -> Origin {
+        match self.origins.get(place) {
+            Some(origin) => *origin,
+            None => Origin::Named,
+        }
+    }
+
+    // Adds the file of that path, which was named so.
+    fn add(&mut self, path: String, origin: Origin) -> Result<(), Failure>
         ensures { IfErr result IsOfExplaining }
     {
         if self.names.len() == MOST_FILES {
             return Err(Failure::TooManyFiles { most: MOST_FILES });
         }
-        match self.names.push(path) {
-            Ok(()) => Ok(()),
-            Err(_) => Err(Failure::OutOfMemory),
+        match (self.origins.push(origin), self.names.push(path)) {
+            (Ok(()), Ok(())) => Ok(()),
+            _ => Err(Failure::OutOfMemory),
         }
     }
 }
@@ -59,9 +81,16 @@ fn is_folder<R: Files>(rt: &R, path: &str) -> bool {
     }
 }
 
+// Whether a file of this name is hidden, as the locks and the copies that editors leave beside a file.
+fn is_hidden(name: &str) -> bool {
+    name.starts_with('.')
+}
+
 // Whether an entry of a folder is a parameter file, by its name.
 fn is_parameter_file<R: Files>(rt: &R, entry: &DirEntry<R, Global>) -> bool {
-    entry.path().extension() == Some(EXTENSION) && !is_folder(rt, entry.path().as_str())
+    !is_hidden(entry.file_name())
+        && entry.path().extension() == Some(EXTENSION)
+        && !is_folder(rt, entry.path().as_str())
 }
 
 // The paths of the parameter files of a folder, in the order of their names.
@@ -116,13 +145,13 @@ fn add_folder<R: AllocGlobal + Files + Clone + Drop>(
         return Err(no_files(rt.alloc(), folder));
     }
     for path in paths {
-        files.add(path)?;
+        files.add(path, Origin::Folder)?;
     }
     Ok(())
 }
 
 /// The parameter files that these paths name: a file names itself, and a folder those of its files whose names end in
-/// `.toml`, in the order of their names.
+/// `.toml` and don't begin with a dot, in the order of their names.
 pub fn parameter_files<R: AllocGlobal + Files + Clone + Drop>(
     rt: &R,
     paths: &[&str],
@@ -134,7 +163,7 @@ pub fn parameter_files<R: AllocGlobal + Files + Clone + Drop>(
         if is_folder(rt, path) {
             add_folder(rt, path, &mut files)?;
         } else {
-            files.add(String::from_str(rt.alloc(), path)?)?;
+            files.add(String::from_str(rt.alloc(), path)?, Origin::Named)?;
         }
     }
     Ok(files)

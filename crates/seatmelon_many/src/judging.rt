@@ -4,9 +4,9 @@ ghost use Rattle.seatmelon_commands.specs.Failing.{IsOfExplaining, status_of};
 ghost use Rattle.seatmelon_many.specs.Files.{count_in};
 ghost use Rattle.seatmelon_many.specs.Judged.{AreOf};
 
-use crate::files::ParameterFiles;
+use crate::files::{Origin, ParameterFiles};
 use rasta_pdu::Params;
-use seatmelon_commands::{Failure, params_in, status, whole_file};
+use seatmelon_commands::{Failure, of_folder, params_in, status, whole_file};
 use std::rt::Files;
 
 /// What parameter files come to.
@@ -25,6 +25,27 @@ fn params_at<R: AllocGlobal + Files>(rt: &R, path: &str) -> Result<Params, Failu
 {
     let text = whole_file(rt, path)?;
     params_in(rt.alloc(), path, &text)
+}
+
+// Why a file that was named so has no parameters.
+fn told_of(failure: Failure, origin: Origin) -> Failure
+    requires { IsOfExplaining failure }
+    ensures { IsOfExplaining result }
+{
+    match origin {
+        Origin::Named => failure,
+        Origin::Folder => of_folder(failure),
+    }
+}
+
+// The parameters of the file of that path, which was named so.
+fn params_of<R: AllocGlobal + Files>(rt: &R, path: &str, origin: Origin) -> Result<Params, Failure>
+    ensures { IfErr result IsOfExplaining }
+{
+    match params_at(rt, path) {
+        Ok(params) => Ok(params),
+        Err(failure) => Err(told_of(failure, origin)),
+    }
 }
 
 // The status where one more file is refused by this failure, which is told; 3 stands over 2.
@@ -71,8 +92,9 @@ pub fn judge<R: AllocGlobal + Files + Eprint>(
     ensures err { IfErr result IsOfExplaining }
 {
     let mut judged = Judged::All(Vec::new(rt.alloc()));
-    for path in files.names() {
-        judged = with_one(rt, judged, params_at(rt, path.as_str()))?;
+    for (place, path) in files.names().iter().enumerate() {
+        let params = params_of(rt, path.as_str(), files.origin(place));
+        judged = with_one(rt, judged, params)?;
     }
     Ok(judged)
 }

@@ -27,4 +27,8 @@ abbrev pub share_in : List ShownUnit → Share
 share_in units = record { captured = messages_captured units; taken = messages_taken units }
 
 abbrev pub counts_in : ShownLists → ShownCounts
-counts_in lists = record { client = share_in lists.client.items; server = share_in lists.server.items }
+counts_in lists = record {
+  packets = lists.packets;
+  client = share_in lists.client.items;
+  server = share_in lists.server.items;
+}

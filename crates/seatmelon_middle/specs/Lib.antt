@@ -1,3 +1,4 @@
 pub mod Counts
 pub mod Packets
+pub mod Course
 pub mod Told

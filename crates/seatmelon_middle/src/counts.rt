@@ -17,12 +17,14 @@ pub struct Share {
 /// Of both ends.
 #[derive(Clone, Copy, Debug, PartialEq, Eq)]
 pub struct ShownCounts {
+    /// How many packets they rest on.
+    pub packets: u32,
     pub client: Share,
     pub server: Share,
 }
 
-// How many messages all units have.
-fn count_captured(units: &[ShownUnit]) -> u64
+/// How many messages these data have.
+pub fn count_captured(units: &[ShownUnit]) -> u64
     ensures { result ≡ messages_captured units.now }
 {
     let mut count = 0u64;
@@ -61,6 +63,7 @@ impl ShownCounts {
         ensures { result ≡ counts_in lists.now }
     {
         ShownCounts {
+            packets: lists.packets,
             client: share_of(&lists.client),
             server: share_of(&lists.server),
         }

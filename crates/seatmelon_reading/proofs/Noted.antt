@@ -3,7 +3,8 @@ use Rattle.std.proofs.Common.{◌≡◌, ◌∙◌, ℕ, zero, suc, ◌+◌, ◌
 use Rattle.std.proofs.lemmas.Bool.Decides.{nat_tests}
 use Rattle.std.proofs.lemmas.List.{length-append, length_push, map_push}
 use Rattle.std.proofs.lemmas.List.Elements.{filter-append, filter_map-append}
-use Rattle.std.specs.List.{cons_option}
+use Rattle.std.specs.List.{cons_option, last_or}
+use Rattle.std.specs.Option.{option_map}
 use Rattle.rasta_pcap.specs.declared.fault.Fault.{Fault}
 use Rattle.rasta_pcap.specs.declared.fault.Side.{Side}
 use Rattle.rasta_pcap.specs.declared.time.CaptureTime.{CaptureTime}
@@ -14,14 +15,16 @@ use Rattle.rasta_pdu.specs.Params.{Parameters}
 use Rattle.rasta_check.specs.declared.passage.Passage.{Passage}
 use Rattle.rasta_check.specs.Capture.Passages.{passage_of}
 use Rattle.rasta_check.specs.Capture.Reading.{packet_found}
-use Rattle.seatmelon_reading.specs.Noted.{AreNotes, Seen, all_seen, count_on, count_with, counts_of, is_before, is_client, is_clients, is_servers, is_behind, is_inside, is_left_out, passage_seen, passed_over, seen_by, seen_in, numbered_seen, seen_inside, sighting_of}
+use Rattle.seatmelon_reading.specs.Noted.{AreNotes, Seen, all_seen, count_on, count_with, counts_of, is_before, is_client, is_clients, is_servers, is_behind, is_inside, is_left_out, last_inside, last_record_of, passage_seen, passed_over, seen_by, seen_in, numbered_seen, seen_inside, sighting_of, stands_inside}
 use Rattle.seatmelon_reading.specs.Tapes.{NumberedPacket, taped_in}
 use Rattle.seatmelon_reading.specs.Times.{AreTimes, time_of}
 use Rattle.seatmelon_reading.specs.declared.notes.ChannelCount.{ChannelCount}
+use Rattle.seatmelon_reading.specs.declared.notes.LastRecord.{LastRecord}
 use Rattle.seatmelon_reading.specs.declared.notes.Notes.{Notes}
 use Rattle.seatmelon_reading.specs.declared.notes.Sighting.{Sighting}
 use Rattle.seatmelon_reading.specs.declared.tape.Tape.{Tape}
 use Rattle.seatmelon_reading.proofs.Filters.{length_filter-most, length_filter-push}
+use Rattle.seatmelon_reading.proofs.Neighbours.{last_or-push}
 use Rattle.seatmelon_reading.proofs.Sorts.{passed_over-seen}
 
 -- ---- a record without a packet
@@ -48,8 +51,9 @@ same_tape old new datagrams more same held is kept =
 
 pub passed : (p : Parameters) (without : List ℕ) (records : List Captured) (r : Captured) (old new : Notes) → AreNotes p without records old
     → SameNotes old new → new.records ≡ suc (length records) → seen_in p without r ≡ None → new.passed ≡ passed_over p without (records ++ r ∷ [])
-    → AreTimes new.zero_is_no_time (records ++ r ∷ []) new.times → AreNotes p without (records ++ r ∷ []) new
-passed p without records r old new h same next none sorted timed =
+    → AreTimes new.zero_is_no_time (records ++ r ∷ []) new.times → new.last ≡ last_inside p new.zero_is_no_time (records ++ r ∷ [])
+    → AreNotes p without (records ++ r ∷ []) new
+passed p without records r old new h same next none sorted timed last =
     let all = sym (all-none p without records r none) in record {
       read = next ∙ sym (add-one (length records)) ∙ sym (length_push records r);
       packets = ap (λ v. v.items) same.packets ∙ h.packets ∙ ap (λ z. map (sighting_of z) (seen_inside p without records)) (sym same.untimed)
@@ -59,8 +63,40 @@ passed p without records r old new h same next none sorted timed =
       behind = same.behind ∙ h.behind ∙ ap (λ l. length (filter (is_behind p) l)) all;
       passed = sorted;
       times = timed;
+      last = last;
       taped = same_tape old.tape new.tape _ _ same.tape h.taped (ap (λ l. map numbered_seen (filter (is_inside p) l)) all);
     }
+
+-- ---- the last record of the window
+
+abbrev last_told : ℕ → Option CaptureTime → Option LastRecord
+last_told number time = Some (record { number = number; time = time })
+
+last_by : (p : Parameters) (none : Bool) (records : List Captured) (r : Captured) (b : Bool) → stands_inside p r ≡ b
+    → last_inside p none (records ++ r ∷ []) ≡ cond b (Some (last_record_of none r)) (last_inside p none records)
+last_by p none records r true e =
+    ap (λ l. option_map (last_record_of none) (last_or None l)) (filter-append (stands_inside p) records (r ∷ [])
+    ∙ ap (λ c. filter (stands_inside p) records ++ cond c (r ∷ []) []) e)
+    ∙ ap (option_map (last_record_of none)) (last_or-push None (filter (stands_inside p) records) r)
+last_by p none records r false e =
+    ap (λ l. option_map (last_record_of none) (last_or None l)) (filter-append (stands_inside p) records (r ∷ [])
+    ∙ ap (λ c. filter (stands_inside p) records ++ cond c (r ∷ []) []) e ∙ append-nil _)
+
+-- a record of the window is the last one
+pub last_here : (p : Parameters) (none : Bool) (records : List Captured) (r : Captured) (number : ℕ) (time : Option CaptureTime) → r.number ≡ number
+    → time ≡ time_of none r → p.first_record ≤ number → number ≤ p.last_record → last_told number time ≡ last_inside p none (records ++ r ∷ [])
+last_here p none records r number time numbered timed first last =
+    ap (λ n. last_told n time) (sym numbered) ∙ ap (last_told r.number) timed
+    ∙ sym (last_by p none records r true (grind (arith, nat_tests, numbered, first, last)))
+
+-- another one leaves the last one
+pub last_before : (p : Parameters) (none : Bool) (records : List Captured) (r : Captured) (last : Option LastRecord) → last ≡ last_inside p none records
+    → r.number < p.first_record → last ≡ last_inside p none (records ++ r ∷ [])
+last_before p none records r last is before = is ∙ sym (last_by p none records r false (grind (arith, nat_tests, before)))
+
+pub last_behind : (p : Parameters) (none : Bool) (records : List Captured) (r : Captured) (last : Option LastRecord) → last ≡ last_inside p none records
+    → p.last_record < r.number → last ≡ last_inside p none (records ++ r ∷ [])
+last_behind p none records r last is behind = is ∙ sym (last_by p none records r false (grind (arith, nat_tests, behind)))
 
 -- ---- one with a packet
 
@@ -87,6 +123,7 @@ module _ (p : Parameters) (without : List ℕ) (records : List Captured) (s : Se
     pub next : new.records ≡ suc (length records)
     pub passed : new.passed ≡ passed_over p without (records ++ s.captured ∷ [])
     pub times : AreTimes new.zero_is_no_time (records ++ s.captured ∷ []) new.times
+    pub last : new.last ≡ last_inside p new.zero_is_no_time (records ++ s.captured ∷ [])
 
   read_next : (old new : Notes) → Grows old new → new.records ≡ length (records ++ s.captured ∷ [])
   read_next old new g = g.next ∙ sym (add-one (length records)) ∙ sym (length_push records s.captured)
@@ -112,6 +149,7 @@ module _ (p : Parameters) (without : List ℕ) (records : List Captured) (s : Se
         behind = behind ∙ g.noted.behind ∙ ap length (sym (without_it (is_behind p) (not_behind_before e)));
         passed = g.passed;
         times = g.times;
+        last = g.last;
         taped = same_tape old.tape new.tape _ _ tape g.noted.taped (ap (map numbered_seen) inside);
       }
 
@@ -127,6 +165,7 @@ module _ (p : Parameters) (without : List ℕ) (records : List Captured) (s : Se
         behind = behind ∙ ap (λ n. n + 1) g.noted.behind ∙ sym (one_more (is_behind p) e);
         passed = g.passed;
         times = g.times;
+        last = g.last;
         taped = same_tape old.tape new.tape _ _ tape g.noted.taped (ap (map numbered_seen) inside);
       }
 
@@ -151,6 +190,7 @@ module _ (p : Parameters) (without : List ℕ) (records : List Captured) (s : Se
         behind = behind ∙ g.noted.behind ∙ ap length (sym (without_it (is_behind p) not_behind));
         passed = g.passed;
         times = g.times;
+        last = g.last;
         taped = λ kept. more_taped old new g tape kept ∙ sym (map_push numbered_seen (seen_inside p without records) s) ∙ ap (map numbered_seen) inside;
       }
 
@@ -273,9 +313,10 @@ saturated n bound most few = omega arith
 module _ (p : Parameters) (without : List ℕ) (records : List Captured) (s : Seen) (some : seen_in p without s.captured ≡ Some s) (old new : Notes)
     (noted : AreNotes p without records old) (next : new.records ≡ suc (length records)) (few : new.records < 4294967296)
     (numbered : s.captured.number ≡ new.records) (same : new.passed ≡ old.passed) (untimed : new.zero_is_no_time ≡ old.zero_is_no_time)
-    (timed : AreTimes new.zero_is_no_time (records ++ s.captured ∷ []) new.times) where
+    (timed : AreTimes new.zero_is_no_time (records ++ s.captured ∷ []) new.times)
+    (last : new.last ≡ last_inside p new.zero_is_no_time (records ++ s.captured ∷ [])) where
   grows : Grows p without records s some old new
-  grows = record { noted = noted; untimed = untimed; next = next; passed = same ∙ noted.passed ∙ sym (passed_over-seen p without records s.captured s some); times = timed }
+  grows = record { noted = noted; untimed = untimed; next = next; passed = same ∙ noted.passed ∙ sym (passed_over-seen p without records s.captured s some); times = timed; last = last }
 
   one_counted_more : (n : ℕ) (test : Seen → Bool) → n ≡ length (filter test (all_seen p without records)) → min (n + 1) 18446744073709551615 ≡ n + 1
   one_counted_more n test is = (let most = filtered_bound p without records test in saturated n (length records) (omega (arith, is, most)) (omega (arith, next, few)))

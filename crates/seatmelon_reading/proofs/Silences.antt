@@ -1,14 +1,13 @@
 -- The longest silence, with one packet more.
-use Rattle.std.proofs.Common.{◌≡◌, ◌∙◌, ◌<◌, ◌≤◌, List, [], ◌∷◌, ◌++◌, length, map, All, Option, None, Some, ap, refl, sym, subst, append_assoc, append-nil, arith}
+use Rattle.std.proofs.Common.{◌≡◌, ◌∙◌, ◌<◌, ◌≤◌, List, [], ◌∷◌, ◌++◌, map, All, Option, None, Some, ap, refl, sym, subst, append_assoc, append-nil, arith}
 use Rattle.std.proofs.lemmas.List.{map-append}
 use Rattle.std.proofs.lemmas.List.Elements.{All-append, All-cons, All-nil, All-push, All-weaker}
 use Rattle.std.specs.List.{last_or}
-use Rattle.rasta_pcap.specs.declared.fault.Side.{Side}
-use Rattle.seatmelon_reading.specs.Silences.{IsFirstLongest, IsLongest, IsLongestSilence, IsSearch, nanoseconds_in, sent_by, silence_of, silences_between, silences_in}
+use Rattle.seatmelon_reading.specs.Silences.{IsFirstLongest, IsLongest, IsSearch, nanoseconds_in, silence_of, silences_between}
 use Rattle.seatmelon_reading.specs.Times.{neighbours}
 use Rattle.seatmelon_reading.specs.declared.notes.Sighting.{Sighting}
-use Rattle.seatmelon_reading.specs.declared.silence.Search.{Search}
 use Rattle.seatmelon_reading.specs.declared.silence.Silence.{Silence}
+use Rattle.seatmelon_reading.specs.declared.silence.SilenceSearch.{SilenceSearch}
 use Rattle.seatmelon_reading.proofs.Neighbours.{joined, last_or-push, neighbours-push}
 
 abbrev pub Shorter : Silence → Silence → Type 0
@@ -59,7 +58,7 @@ between None packet = refl
 between (Some before) packet = refl
 
 -- one packet more
-pub search_next : (sent : List Sighting) (packet : Sighting) (old new : Search) → IsSearch sent old
+pub search_next : (sent : List Sighting) (packet : Sighting) (old new : SilenceSearch) → IsSearch sent old
     → ((silences : List Silence) → IsLongest silences old.longest → IsLongest (silences ++ silences_between old.last packet) new.longest)
     → new.last ≡ Some packet → IsSearch (sent ++ packet ∷ []) new
 search_next sent packet old new h longest last = record {
@@ -70,16 +69,3 @@ search_next sent packet old new h longest last = record {
       ∙ ap (λ o. map silence_of (neighbours sent) ++ silences_between o packet) (sym h.last) in
       subst (λ l. IsLongest l new.longest) (sym more) (longest (map silence_of (neighbours sent)) h.longest);
 }
-
--- where there is no silence, there are fewer than two packets
-few_packets : (l : List Sighting) → map silence_of (neighbours l) ≡ [] → length l < 2
-few_packets [] e = omega arith
-few_packets (x ∷ []) e = omega arith
-few_packets (x ∷ y ∷ l) e = absurd cc
-
-told_by : (packets : List Sighting) (side : Side) (o : Option Silence) → IsLongest (silences_in side packets) o → IsLongestSilence packets side o
-told_by packets side None h = few_packets (sent_by side packets) h
-told_by packets side (Some s) h = h
-
-pub search_told : (packets : List Sighting) (side : Side) (search : Search) → IsSearch (sent_by side packets) search → IsLongestSilence packets side search.longest
-search_told packets side search h = told_by packets side search.longest h.longest

@@ -1,7 +1,7 @@
 -- What is noted of a capture's records, where some are left out.
 use Rattle.std.specs.Prelude.{◌≡◌, ℕ, ◌+◌, List, [], ◌∷◌, length, map, filter, filter_map, nat_eq, nat_le, nat_lt, not}
 use Rattle.std.specs.Prelude.{◌&&◌, Bool, true, false, Option, None, Some, Result, Ok, Err, option_map, if◌then◌else◌}
-use Rattle.std.specs.List.{list_any}
+use Rattle.std.specs.List.{last_or, list_any}
 use Rattle.rasta_pcap.specs.declared.fault.Fault.{Fault}
 use Rattle.rasta_pcap.specs.declared.fault.Side.{Side}
 use Rattle.rasta_pcap.specs.declared.fault.Side.TheVariants.{Client, Server}
@@ -14,6 +14,7 @@ use Rattle.seatmelon_reading.specs.declared.notes.ChannelCount.{ChannelCount}
 use Rattle.seatmelon_reading.specs.PassedOver.{is_for, why_by}
 use Rattle.seatmelon_reading.specs.Tapes.{NumberedPacket, taped_in}
 use Rattle.seatmelon_reading.specs.Times.{AreTimes, time_of}
+use Rattle.seatmelon_reading.specs.declared.notes.LastRecord.{LastRecord}
 use Rattle.seatmelon_reading.specs.declared.notes.Notes.{Notes}
 use Rattle.seatmelon_reading.specs.declared.notes.Sighting.{Sighting}
 use Rattle.seatmelon_reading.specs.declared.passed_over.PassedOver.{PassedOver}
@@ -117,6 +118,17 @@ passed_over p without records = record {
 abbrev pub numbered_seen : Seen → NumberedPacket
 numbered_seen s = record { number = s.captured.number; packet = s.packet }
 
+-- a record stands in the window
+abbrev pub stands_inside : Parameters → Captured → Bool
+stands_inside p r = nat_le p.first_record r.number && nat_le r.number p.last_record
+
+abbrev pub last_record_of : Bool → Captured → LastRecord
+last_record_of zero r = record { number = r.number; time = time_of zero r }
+
+-- the last of these records that stands in the window, if one does
+abbrev pub last_inside : Parameters → Bool → List Captured → Option LastRecord
+last_inside p zero records = option_map (last_record_of zero) (last_or None (filter (stands_inside p) records))
+
 -- what is noted but for the packets in the window
 pub record SameOutside (old new : Notes) : Type 0 where
   pub untimed : new.zero_is_no_time ≡ old.zero_is_no_time
@@ -126,6 +138,7 @@ pub record SameOutside (old new : Notes) : Type 0 where
   pub behind : new.behind ≡ old.behind
   pub passed : new.passed ≡ old.passed
   pub times : new.times ≡ old.times
+  pub last : new.last ≡ old.last
 
 -- these are the notes of the records so far
 pub record AreNotes (p : Parameters) (without : List ℕ) (records : List Captured) (n : Notes) : Type 0 where
@@ -136,4 +149,5 @@ pub record AreNotes (p : Parameters) (without : List ℕ) (records : List Captur
   pub behind : n.behind ≡ length (filter (is_behind p) (all_seen p without records))
   pub passed : n.passed ≡ passed_over p without records
   pub times : AreTimes n.zero_is_no_time records n.times
+  pub last : n.last ≡ last_inside p n.zero_is_no_time records
   pub taped : n.tape.is_kept ≡ true → taped_in n.tape ≡ map numbered_seen (seen_inside p without records)

@@ -2,24 +2,14 @@
 use Rattle.std.specs.Prelude.{◌≡◌, ℕ, ◌+◌, ◌-◌, ◌*◌, ◌<◌, ◌≤◌, List, [], ◌∷◌, ◌++◌, length, map, filter, All, Bool}
 use Rattle.std.specs.Prelude.{true, false, Option, None, Some, is_none}
 use Rattle.std.specs.List.{last_or}
-use Rattle.rasta_pcap.specs.declared.fault.Side.{Side}
-use Rattle.rasta_pcap.specs.declared.fault.Side.TheVariants.{Client, Server}
 use Rattle.rasta_pcap.specs.declared.time.CaptureTime.{CaptureTime}
 use Rattle.rasta_pcap.specs.declared.time.FractionUnit.{FractionUnit}
 use Rattle.rasta_pcap.specs.declared.time.FractionUnit.TheVariants.{Microseconds, Nanoseconds}
 use Rattle.seatmelon_reading.specs.Times.{neighbours}
 use Rattle.seatmelon_reading.specs.declared.notes.Sighting.{Sighting}
-use Rattle.seatmelon_reading.specs.declared.silence.Search.{Search}
+use Rattle.seatmelon_reading.specs.declared.silence.LastSilence.{LastSilence}
 use Rattle.seatmelon_reading.specs.declared.silence.Silence.{Silence}
-
-abbrev pub is_side : Side → Side → Bool
-is_side Client Client = true
-is_side Server Server = true
-is_side side other = false
-
--- the packets of an end, in order
-abbrev pub sent_by : Side → List Sighting → List Sighting
-sent_by side packets = filter (λ (s : Sighting). is_side side s.sender) packets
+use Rattle.seatmelon_reading.specs.declared.silence.SilenceSearch.{SilenceSearch}
 
 -- the packet has no time
 abbrev pub is_untimed : Sighting → Bool
@@ -43,12 +33,16 @@ nanoseconds_between a b = 0
 abbrev pub nanoseconds_in : Silence → ℕ
 nanoseconds_in s = nanoseconds_between s.before.time s.after.time
 
+-- how long the silence behind the last sign of life is
+abbrev pub last_nanoseconds_in : LastSilence → ℕ
+last_nanoseconds_in s = nanoseconds_between s.before.time s.end.time
+
 abbrev pub silence_of : Sighting × Sighting → Silence
 silence_of pair = record { before = pair.0; after = pair.1 }
 
--- the silences of an end: its packets, each with the next one of them
-abbrev pub silences_in : Side → List Sighting → List Silence
-silences_in side packets = map silence_of (neighbours (sent_by side packets))
+-- the silences of an end that gave these signs of life: each with the next one of them
+abbrev pub silences_of : List Sighting → List Silence
+silences_of signs = map silence_of (neighbours signs)
 
 -- it is the first one of those silences that are longest
 pub record IsFirstLongest (silences : List Silence) (s : Silence) : Type 0 where
@@ -58,23 +52,19 @@ pub record IsFirstLongest (silences : List Silence) (s : Silence) : Type 0 where
   pub longer : All (λ t. nanoseconds_in t < nanoseconds_in s) earlier
   pub longest : All (λ t. nanoseconds_in t ≤ nanoseconds_in s) later
 
--- the longest silence of an end among these packets: none where it sent fewer than two
-abbrev pub IsLongestSilence : List Sighting → Side → Option Silence → Type 0
-IsLongestSilence packets side None = length (sent_by side packets) < 2
-IsLongestSilence packets side (Some s) = IsFirstLongest (silences_in side packets) s
-
--- ---- on the way
-
+-- the longest one, if there is one
 abbrev pub IsLongest : List Silence → Option Silence → Type 0
 IsLongest silences None = silences ≡ []
 IsLongest silences (Some s) = IsFirstLongest silences s
+
+-- ---- on the way
 
 -- the silence between the last packet, if there is one, and the next
 abbrev pub silences_between : Option Sighting → Sighting → List Silence
 silences_between None after = []
 silences_between (Some before) after = record { before = before; after = after } ∷ []
 
--- after these packets of an end
-pub record IsSearch (sent : List Sighting) (search : Search) : Type 0 where
-  pub last : search.last ≡ last_or None sent
-  pub longest : IsLongest (map silence_of (neighbours sent)) search.longest
+-- after these signs of life of an end
+pub record IsSearch (signs : List Sighting) (search : SilenceSearch) : Type 0 where
+  pub last : search.last ≡ last_or None signs
+  pub longest : IsLongest (silences_of signs) search.longest

@@ -17,10 +17,10 @@ mod window;
 
 pub use capture_refusal::{Beside, CaptureRefusal};
 pub use code_count::CodeCount;
-pub use notes::{ChannelCount, Notes, Sighting};
+pub use notes::{ChannelCount, LastRecord, Notes, Sighting};
 pub use passed_over::PassedOver;
 pub use reading::{Reading, read_capture};
-pub use silence::{Silence, count_untimed, longest_silence};
+pub use silence::{LastSilence, Silence, SilenceSearch, count_untimed};
 pub use tape::{Tape, Taped};
 pub use times::{Noticed, TimeNotes};
 pub use window::{Window, window_in};

@@ -1,11 +1,11 @@
 //! What is noted of a capture's records: how many there are, and where the packets of the connection stand.
-ghost use Rattle.std.specs.Prelude.{◌≡◌, suc, ◌++◌, ◌∷◌, [], ◌<◌, ◌≤◌, ◌⊎◌, ◌^◌, ℕ, List, length, None, Some, IfErr, OnOk};
+ghost use Rattle.std.specs.Prelude.{◌≡◌, suc, ◌++◌, ◌∷◌, [], ◌<◌, ◌≤◌, ◌⊎◌, ◌^◌, ℕ, Bool, List, length, None, Some, IfErr, OnOk};
 ghost use Rattle.seatmelon_reading.specs.Times.{time_of};
 ghost use Rattle.rasta_pcap.specs.Captured.{Captured, numbered};
 ghost use Rattle.rasta_pcap.specs.Fault.{no_memory};
 ghost use Rattle.rasta_pdu.specs.Params.{Parameters};
 ghost use Rattle.rasta_check.specs.Capture.Passages.{passage_of};
-ghost use Rattle.seatmelon_reading.specs.Noted.{AreNotes, SameOutside, Seen, count_with, counts_of, passage_seen, seen_in, why_passed};
+ghost use Rattle.seatmelon_reading.specs.Noted.{AreNotes, SameOutside, Seen, count_with, counts_of, last_inside, passage_seen, seen_in, why_passed};
 
 use crate::frames::why_passed;
 use crate::passed_over::{PassedOver, WhyPassed};
@@ -30,6 +30,16 @@ pub struct Sighting {
     pub channel: u8,
 
     pub sender: Side,
+}
+
+/// The last record of the window.
+#[derive(Clone, Copy)]
+pub struct LastRecord {
+    /// Its number, from 1.
+    pub number: u32,
+
+    /// When it was captured; none where it has no time.
+    pub time: Option<CaptureTime>,
 }
 
 /// How many packets of each end a channel has.
@@ -59,6 +69,9 @@ pub struct Notes {
     pub passed: PassedOver,
 
     pub times: TimeNotes,
+
+    /// None where the window has no record.
+    pub last: Option<LastRecord>,
 
     /// Whether a time of 0 is none, as in a pcapng file, whose packets may lack one.
     pub zero_is_no_time: bool,
@@ -105,6 +118,23 @@ fn count(channels: &mut [ChannelCount; 4], passage: Passage)
     }
 }
 
+// The last record of the window, with one record more, which was captured at this time, if it has one.
+fn last_with(
+    params: &Params,
+    last: Option<LastRecord>,
+    number: u32,
+    time: Option<CaptureTime>,
+) -> Option<LastRecord>
+    ensures { (zero : Bool) (records : List Captured) (r : Captured) → last ≡ last_inside params.now zero records → r.number ≡ number
+        → time ≡ time_of zero r → result ≡ last_inside params.now zero (records ++ r ∷ []) }
+{
+    match standing_of(params, number) {
+        Standing::Inside => Some(LastRecord { number, time }),
+        Standing::Before => last,
+        Standing::Behind => last,
+    }
+}
+
 impl Notes {
     /// Of no record.
     pub fn new(alloc: Global, zero_is_no_time: bool, is_taped: bool) -> Notes
@@ -123,20 +153,22 @@ impl Notes {
             behind: 0,
             passed: PassedOver::NONE,
             times: TimeNotes::NONE,
+            last: None,
             zero_is_no_time,
             tape: Tape::new(alloc, is_taped),
         }
     }
 
     // Takes in a record without a packet of the recorded channels, when it was captured, if it has a time, and why.
-    fn pass(&mut self, number: u32, time: Option<CaptureTime>, why: WhyPassed)
-        ensures noted { (p : Parameters) (without : List ℕ) (records : List Captured) (r : Captured) → AreNotes p without records self.old
-            → r.number ≡ number → number ≡ suc (length records) → time ≡ time_of self.old.zero_is_no_time r → seen_in p without r ≡ None
-            → why_passed p without r ≡ Some why → AreNotes p without (records ++ r ∷ []) self.new }
+    fn pass(&mut self, params: &Params, number: u32, time: Option<CaptureTime>, why: WhyPassed)
+        ensures noted { (without : List ℕ) (records : List Captured) (r : Captured) → AreNotes params.now without records self.old
+            → r.number ≡ number → number ≡ suc (length records) → time ≡ time_of self.old.zero_is_no_time r → seen_in params.now without r ≡ None
+            → why_passed params.now without r ≡ Some why → AreNotes params.now without (records ++ r ∷ []) self.new }
         ensures kept { self.new.zero_is_no_time ≡ self.old.zero_is_no_time }
     {
         self.records = number;
         self.times.add(number, time);
+        self.last = last_with(params, self.last, number, time);
         self.passed = self.passed.with(why);
     }
 
@@ -172,6 +204,7 @@ impl Notes {
         let number = record.number;
         self.records = number;
         self.times.add(number, time);
+        self.last = last_with(params, self.last, number, time);
         match standing_of(params, number) {
             Standing::Before => self.before = self.before.saturating_add(1),
             Standing::Behind => self.behind = self.behind.saturating_add(1),
@@ -210,7 +243,8 @@ impl Notes {
         match passage {
             Some(passage) => self.add(alloc, params, record, time, passage),
             None => {
-                self.pass(record.number, time, why_passed(params, without, record));
+                let why = why_passed(params, without, record);
+                self.pass(params, record.number, time, why);
                 Ok(())
             }
         }

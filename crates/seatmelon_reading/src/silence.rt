@@ -1,22 +1,31 @@
 //! The longest silence of an end.
 ghost use Rattle.std.specs.Prelude.{◌≡◌, ◌<◌, ◌^◌, ◌++◌, ◌∷◌, [], List, filter, length};
-ghost use Rattle.seatmelon_reading.specs.Silences.{IsFirstLongest, IsLongest, IsLongestSilence, IsSearch, is_side, is_untimed, nanoseconds_each, nanoseconds_in, nanoseconds_of, silences_between};
+ghost use Rattle.seatmelon_reading.specs.Silences.{IsFirstLongest, IsLongest, IsSearch, is_untimed, last_nanoseconds_in, nanoseconds_between, nanoseconds_each, nanoseconds_in, nanoseconds_of, silences_between};
 
-use crate::notes::Sighting;
-use rasta_pcap::{CaptureTime, FractionUnit, Side};
+use crate::notes::{LastRecord, Sighting};
+use rasta_pcap::{CaptureTime, FractionUnit};
 
-/// Two packets of an end, one after the other, between which it sent none.
+/// Two signs of life of an end, one after the other, between which it gave none.
 #[derive(Clone, Copy)]
 pub struct Silence {
     pub before: Sighting,
     pub after: Sighting,
 }
 
-// The last packet of an end, and the longest silence up to there.
+/// The last sign of life of an end, and the last record behind it.
 #[derive(Clone, Copy)]
-struct Search {
-    last: Option<Sighting>,
-    longest: Option<Silence>,
+pub struct LastSilence {
+    pub before: Sighting,
+    pub end: LastRecord,
+}
+
+/// The last sign of life of an end, and the longest silence up to there.
+#[derive(Clone, Copy)]
+pub struct SilenceSearch {
+    pub last: Option<Sighting>,
+
+    /// The first of those that are as long; none where the end gave fewer than two signs of life.
+    pub longest: Option<Silence>,
 }
 
 // How many nanoseconds one of this unit has.
@@ -37,17 +46,31 @@ fn nanoseconds_of(time: CaptureTime) -> u64
     u64::from(time.seconds) * 1_000_000_000 + u64::from(time.fraction) * nanoseconds_each(time.unit)
 }
 
+// How many nanoseconds pass from one moment to another; 0 where the time falls, or isn't known.
+fn nanoseconds_between(before: Option<CaptureTime>, after: Option<CaptureTime>) -> u64
+    ensures { result ≡ nanoseconds_between before after }
+{
+    match (before, after) {
+        (Some(before), Some(after)) => nanoseconds_of(after).saturating_sub(nanoseconds_of(before)),
+        _ => 0,
+    }
+}
+
 impl Silence {
     /// How long, in nanoseconds; 0 where the time falls.
     pub fn nanoseconds(&self) -> u64
         ensures { result ≡ nanoseconds_in self.now }
     {
-        match (self.before.time, self.after.time) {
-            (Some(before), Some(after)) => {
-                nanoseconds_of(after).saturating_sub(nanoseconds_of(before))
-            }
-            _ => 0,
-        }
+        nanoseconds_between(self.before.time, self.after.time)
+    }
+}
+
+impl LastSilence {
+    /// How long, in nanoseconds; 0 where the time falls, or the last record has none.
+    pub fn nanoseconds(&self) -> u64
+        ensures { result ≡ last_nanoseconds_in self.now }
+    {
+        nanoseconds_between(self.before.time, self.end.time)
     }
 }
 
@@ -83,23 +106,23 @@ fn longest_with(
     }
 }
 
-impl Search {
-    // Takes in the next packet of the end.
-    fn add(&mut self, packet: Sighting)
-        ensures { (sent : List Sighting) → IsSearch sent self.old → IsSearch (sent ++ packet ∷ []) self.new }
+impl SilenceSearch {
+    /// Before the first sign of life.
+    pub fn new() -> SilenceSearch
+        ensures { IsSearch [] result }
+    {
+        SilenceSearch {
+            last: None,
+            longest: None,
+        }
+    }
+
+    /// Takes in the next sign of life of the end.
+    pub fn add(&mut self, packet: Sighting)
+        ensures { (signs : List Sighting) → IsSearch signs self.old → IsSearch (signs ++ packet ∷ []) self.new }
     {
         self.longest = longest_with(self.longest, self.last, packet);
         self.last = Some(packet);
-    }
-}
-
-// Whether this end sent a packet.
-fn is_side(side: Side, other: Side) -> bool
-    ensures { result ≡ is_side side other }
-{
-    match (side, other) {
-        (Side::Client, Side::Client) | (Side::Server, Side::Server) => true,
-        (Side::Client, Side::Server) | (Side::Server, Side::Client) => false,
     }
 }
 
@@ -115,20 +138,4 @@ pub fn count_untimed(packets: &[Sighting]) -> u64
     ensures { result ≡ length (filter is_untimed packets.now) }
 {
     packets.iter().filter(|packet| is_untimed(*packet)).count() as u64
-}
-
-/// The longest silence of an end, and the first of those that are as long; none where it sent fewer than two packets.
-pub fn longest_silence(packets: &[Sighting], sender: Side) -> Option<Silence>
-    ensures { IsLongestSilence packets.now sender result }
-{
-    let mut search = Search {
-        last: None,
-        longest: None,
-    };
-    for packet in packets {
-        if is_side(sender, packet.sender) {
-            search.add(*packet);
-        }
-    }
-    search.longest
 }

@@ -37,11 +37,11 @@ ArePlaced-set cs t i c d same are =
 
 -- ---- a connection that begins
 
-or_first-cond : (b first : Bool) (n : ℕ) (r : Option ℕ) → or_first (cond b (Some n) r) first ≡ cond b (Some (n + 1)) (or_first r first)
+pub or_first-cond : (b first : Bool) (n : ℕ) (r : Option ℕ) → or_first (cond b (Some n) r) first ≡ cond b (Some (n + 1)) (or_first r first)
 or_first-cond true first n r = refl
 or_first-cond false first n r = refl
 
-or_first-alone : (b : Bool) → or_first None b ≡ cond b (Some 0) None
+pub or_first-alone : (b : Bool) → or_first None b ≡ cond b (Some 0) None
 or_first-alone true = refl
 or_first-alone false = refl
 

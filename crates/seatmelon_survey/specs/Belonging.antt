@@ -5,7 +5,7 @@ use Rattle.std.specs.Option.{option_and_then, option_map, option_map_or}
 use Rattle.seatmelon_packets.specs.declared.packet.Packet.{Packet}
 use Rattle.seatmelon_connections.specs.declared.connection.Connection.{Connection}
 use Rattle.seatmelon_connections.specs.declared.connection.Request.{Request}
-use Rattle.seatmelon_connections.specs.Comparing.{hash_in, is_claimed, is_followed_by, request_in}
+use Rattle.seatmelon_connections.specs.Comparing.{can_have, hash_in, is_claimed, is_followed_by, request_in}
 use Rattle.seatmelon_connections.specs.Noted.{first_id_in, has_ending_in, repeated_in, request_of, second_id_in}
 use Rattle.seatmelon_survey.specs.declared.findings.Destination.{Destination}
 use Rattle.seatmelon_survey.specs.declared.findings.Destination.TheVariants.{Another, Last, Repeated, BehindRepeated}
@@ -52,6 +52,11 @@ is_between e c = same_ends (ends_of (first_id_in c) (second_id_in c)) e
 abbrev pub last_between : Ends → List Connection → Option ℕ
 last_between e cs = last_place (is_between e) cs
 
+-- the place of the last connection that can have a packet: a connection between the packet's ends, which the packet fits by
+-- its hosts, as a copy of the opening, or by the course of its end
+abbrev pub last_for : Packet → List Connection → Option ℕ
+last_for p cs = last_place (λ c. can_have c p) cs
+
 -- the place of the connection that a request opened
 abbrev pub opened_among : Opening → List Connection → Option ℕ
 opened_among o cs = last_place (λ c. is_opening (opening_of c) o) cs
@@ -71,20 +76,20 @@ destination_behind cs last z p (Some place) =
     else Last last
 
 -- where a packet belongs, by the connection that it opened: to that one, as a late copy if this has ended, or isn't the
--- last one between its ends
+-- last one that can have the packet
 abbrev pub destination_beside : List Connection → ℕ → Connection → Packet → Option ℕ → Destination
 destination_beside cs last z p (Some place) =
     if (place == last) && not (has_ending_in z) then Last last else Repeated place last
 destination_beside cs last z p None = if is_followed_by z p then Another
     else destination_behind cs last z p (repeated_in z)
 
--- where a packet belongs, by the last connection between its ends
+-- where a packet belongs, by the last connection that can have it
 abbrev pub destination_after : List Connection → Packet → Option ℕ → Destination
 destination_after cs p None = Another
 destination_after cs p (Some last) =
     option_map_or (λ z. destination_beside cs last z p (option_and_then (λ o. opened_among o cs) (opening_in p)))
     (slice_get cs last) Another
 
--- where a packet belongs
+-- where a packet belongs: what other connections between the same ids sent, on quite other hosts, doesn't count
 abbrev pub destination_of : List Connection → Packet → Destination
-destination_of cs p = destination_after cs p (last_between (ends_of p.way.sender p.way.receiver) cs)
+destination_of cs p = destination_after cs p (last_for p cs)

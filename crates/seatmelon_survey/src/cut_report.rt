@@ -3,9 +3,11 @@ ghost use Rattle.rasta_pcap.specs.Devices.{AsWritten};
 
 use crate::cuts::{CutCount, Cuts, Direction};
 use crate::findings::Survey;
+use crate::json_report::write_route;
 use rasta_pcap::{Fault, Sink};
 use rasta_udp::Channel;
 use seatmelon_connections::Connection;
+use seatmelon_text::json::write_long;
 use seatmelon_text::{parts, tell, write_parts_if, write_words};
 
 // How many pairs of ends are told one by one that are in no connection.
@@ -40,8 +42,8 @@ fn count_of(cuts: &Cuts, channel: &Channel) -> CutCount {
     cuts.count(there).and(cuts.count(there.reverse()))
 }
 
-// How many datagrams of a connection's channels were captured cut.
-fn count_in(cuts: &Cuts, connection: &Connection) -> u64 {
+/// How many datagrams of a connection's channels were captured cut.
+pub fn count_in(cuts: &Cuts, connection: &Connection) -> u64 {
     let mut count = 0u64;
     for counts in connection.channels().counts() {
         count = count.saturating_add(count_of(cuts, &counts.channel).datagrams);
@@ -153,4 +155,42 @@ pub fn write_cut_pairs<W: Sink>(writer: &mut W, survey: &Survey) -> Result<(), F
             "\n"
         ],
     )
+}
+
+// Writes a pair of ends that is in no connection, as JSON.
+fn write_pair_json<W: Sink>(
+    writer: &mut W,
+    before: &'static str,
+    route: &Channel,
+    datagrams: u64,
+) -> Result<(), Fault>
+    ensures written { AsWritten W.failure_count result writer.old writer.new }
+{
+    tell!(writer, before, "{\"ends\":")?;
+    write_route(writer, route)?;
+    write_words(writer, ",\"datagrams\":")?;
+    write_long(writer, datagrams)?;
+    write_words(writer, "}")
+}
+
+/// Writes as JSON what [`write_cut_pairs`] writes as text.
+pub fn write_cut_pairs_json<W: Sink>(writer: &mut W, survey: &Survey) -> Result<(), Fault>
+    ensures written { AsWritten W.failure_count result writer.old writer.new }
+{
+    let mut told = 0u64;
+    let mut before = "";
+    write_words(writer, ",\"only_captured_cut\":[")?;
+    for place in 0..survey.cuts().directions() {
+        let Some((route, datagrams)) = pair_at(survey, place) else {
+            continue;
+        };
+        if told < MOST_TOLD {
+            write_pair_json(writer, before, &route, datagrams)?;
+            before = ",";
+        }
+        told = told.saturating_add(1);
+    }
+    let more = told.saturating_sub(MOST_TOLD);
+    tell!(writer, "],\"more_pairs\":", more, ",\"not_told_apart\":")?;
+    write_long(writer, survey.cuts().further())
 }

@@ -1,5 +1,5 @@
 //! What was found in a capture.
-ghost use Rattle.std.specs.Prelude.{◌≡◌, false, Some, None, IfErr, OnErr, OnOk, slice_get};
+ghost use Rattle.std.specs.Prelude.{◌≡◌, false, Some, None, IfErr, OnErr, OnOk, slice_get, take};
 ghost use Rattle.std.specs.Option.{option_and_then, option_map_or};
 ghost use Rattle.rasta_pcap.specs.Fault.{no_memory};
 ghost use Rattle.rasta_pcap.specs.Devices.{AsWritten};
@@ -7,7 +7,9 @@ ghost use Rattle.seatmelon_survey.specs.Belonging.{opening_in};
 
 use crate::cut_report::{write_cut_of, write_cut_pairs, write_cuts};
 use crate::cuts::Cuts;
+use crate::fault_json::write_fault_json;
 use crate::fault_words::write_fault;
+use crate::json_report::write_found;
 use crate::places::{Ends, Opening, Places};
 use crate::report::{write_connection, write_summary};
 use rasta_pcap::{CaptureTime, Fault, Record, Sink};
@@ -29,13 +31,13 @@ enum Destination {
     // To another connection, which it begins.
     Another,
 
-    // To the last connection between the ends, in its course.
+    // To the last connection that can have it, in its course.
     Last(usize),
 
-    // To the connection whose opening it repeats late, beside the last one between the ends.
+    // To the connection whose opening it repeats late, beside the last one that can have it.
     Repeated { place: usize, last: usize },
 
-    // To a connection behind a late copy of its opening, beside the last one between the ends.
+    // To a connection behind a late copy of its opening, beside the last one that can have it.
     BehindRepeated { place: usize, last: usize },
 }
 
@@ -52,7 +54,7 @@ fn opening_in(packet: &Packet) -> Option<Opening>
     })
 }
 
-// How a packet comes to a connection whose opening crossed late, where the last one between its ends stands there.
+// How a packet comes to a connection whose opening crossed late, where the last one that can have it stands there.
 fn late_arrival(place: usize, last: usize) -> Arrival {
     if place == last {
         Arrival::Late
@@ -97,9 +99,9 @@ impl Model for Survey {
 }
 
 impl Survey {
-    ghost use Rattle.seatmelon_connections.specs.Comparing.{is_claimed};
+    ghost use Rattle.seatmelon_connections.specs.Comparing.{can_have, is_claimed};
     ghost use Rattle.seatmelon_connections.specs.Noted.{repeated_in};
-    ghost use Rattle.seatmelon_survey.specs.Belonging.{destination_after, destination_behind, destination_of, ends_of, last_between, opened_among, opening_in};
+    ghost use Rattle.seatmelon_survey.specs.Belonging.{destination_after, destination_behind, destination_of, ends_of, last_between, last_for, opened_among, opening_in};
     ghost use Rattle.seatmelon_survey.specs.Survey.{connections_in, cuts_of, fault_in, format_of_survey, header_of, records_in};
     ghost use Rattle.seatmelon_survey.specs.CutNotes.{no_cuts};
     ghost use Rattle.seatmelon_survey.specs.Cuts.{TakesCutIf};
@@ -260,18 +262,54 @@ impl Survey {
         self.places.find(Ends::of(way))
     }
 
+    // The place of the last connection that can have a packet: mostly that of the last one between its ends.
+    fn last_for(&mut self, packet: &Packet) -> Option<usize>
+        ensures value { result ≡ last_for packet.now (connections_in self.old) }
+        ensures unchanged { self.new ≡ self.old }
+    {
+        let last = self.last_between(&packet.way)?;
+        if self.can_have(last, packet) {
+            return Some(last);
+        }
+        self.last_before(last, packet)
+    }
+
+    // The place of the last connection before this place that can have a packet.
+    fn last_before(&self, end: usize, packet: &Packet) -> Option<usize>
+        ensures { result ≡ last_for packet.now (take end (connections_in self.now)) }
+    {
+        let mut place = end;
+        while place > 0 {
+            place -= 1;
+            if self.can_have(place, packet) {
+                return Some(place);
+            }
+        }
+        None
+    }
+
+    // Whether the connection at this place can have a packet.
+    fn can_have(&self, place: usize, packet: &Packet) -> bool
+        ensures { result ≡ option_map_or (λ c. can_have c packet.now) (slice_get (connections_in self.now) place) false }
+    {
+        match self.connections.get(place) {
+            Some(connection) => connection.can_have(packet),
+            None => false,
+        }
+    }
+
     // Where a packet belongs.
     fn destination_of(&mut self, packet: &Packet) -> Destination
         ensures value { result ≡ destination_of (connections_in self.old) packet.now }
         ensures unchanged { self.new ≡ self.old }
     {
-        match self.last_between(&packet.way) {
+        match self.last_for(packet) {
             Some(last) => self.destination_beside(last, packet),
             None => Destination::Another,
         }
     }
 
-    // Where a packet belongs, where the last connection between its ends stands there.
+    // Where a packet belongs, where the last connection that can have it stands there.
     fn destination_beside(&self, last: usize, packet: &Packet) -> Destination
         ensures { result ≡ destination_after (connections_in self.now) packet.now (Some last) }
     {
@@ -299,7 +337,7 @@ impl Survey {
         self.places.find_opened(opening)
     }
 
-    // Where a packet belongs that opened no connection and begins none, where the last connection between its ends, which
+    // Where a packet belongs that opened no connection and begins none, where the last connection that can have it, which
     // is this one, stands there.
     fn destination_behind(
         &self,
@@ -317,8 +355,8 @@ impl Survey {
         }
     }
 
-    // Whether the connection at this place, whose opening crossed late, claims a packet from the last one between the
-    // same ends.
+    // Whether the connection at this place, whose opening crossed late, claims a packet from the last one that can have
+    // it.
     fn is_claimed(&self, place: usize, last: &Connection, packet: &Packet) -> bool
         ensures { result ≡ option_map_or (λ c. is_claimed c last.now packet.now) (slice_get (connections_in self.now) place) false }
     {
@@ -376,14 +414,14 @@ impl Survey {
         Ok(())
     }
 
-    // Leaves a packet out that begins a connection. From it on the last connection between its ends is followed by
+    // Leaves a packet out that begins a connection. From it on the last connection that can have it is followed by
     // another one.
     fn leave_out(&mut self, packet: &Packet)
         ensures fault { fault_in self.new ≡ fault_in self.old }
         ensures cuts { cuts_of self.new ≡ cuts_of self.old }
     {
         self.left_out = self.left_out.saturating_add(1);
-        if let Some(last) = self.last_between(&packet.way) {
+        if let Some(last) = self.last_for(packet) {
             self.set_repeated(last, None);
         }
     }
@@ -407,5 +445,17 @@ impl Survey {
         };
         write_words(writer, "\n")?;
         write_fault(writer, fault, self.format)
+    }
+
+    /// Writes the same as one JSON object and a line feed.
+    ///
+    /// Refused by [`Fault::WRITE_FAILED`] alone.
+    pub fn write_json<W: Sink>(&self, writer: &mut W) -> Result<(), Fault>
+        ensures written { AsWritten W.failure_count result writer.old writer.new }
+    {
+        write_found(writer, self)?;
+        write_words(writer, ",\"fault\":")?;
+        write_fault_json(writer, self.fault, self.format)?;
+        write_words(writer, "}\n")
     }
 }

@@ -3,13 +3,16 @@
 
 mod cut_report;
 mod cuts;
+mod fault_json;
 mod fault_words;
 mod findings;
+mod json_report;
 mod places;
 mod reading;
 mod report;
 
 pub use cuts::{CutCount, Cuts, Direction, MOST_DIRECTIONS};
+pub use fault_json::write_fault_json;
 pub use fault_words::{FaultWords, FileRefusal, words_of_fault, write_fault};
 pub use findings::{Behind, MOST_CONNECTIONS, Survey};
 pub use reading::survey;

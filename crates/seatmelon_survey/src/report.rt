@@ -35,14 +35,14 @@ pub fn write_summary<W: Sink>(writer: &mut W, survey: &Survey) -> Result<(), Fau
     write_parts_if(writer, survey.connections().is_empty(), &none)
 }
 
-// What the ends are called: by their roles where the opening was captured.
+/// What the ends are called: by their roles where the opening was captured.
 #[derive(Clone, Copy)]
-struct EndNames {
-    first: &'static str,
-    second: &'static str,
+pub struct EndNames {
+    pub first: &'static str,
+    pub second: &'static str,
 }
 
-fn names_in(connection: &Connection) -> EndNames {
+pub fn names_in(connection: &Connection) -> EndNames {
     if connection.has_opening() {
         EndNames {
             first: "client",
@@ -96,6 +96,9 @@ fn write_extent<W: Sink>(writer: &mut W, connection: &Connection) -> Result<(), 
         "\n"
     )?;
     write_times(writer, connection)?;
+    if connection.was_opened_before() {
+        return write_words(writer, "  opened before the capture began\n");
+    }
     if !connection.has_opening() {
         return write_words(writer, "  no opening was captured\n");
     }

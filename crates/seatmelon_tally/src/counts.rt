@@ -1,14 +1,31 @@
 //! What the answers of an audit come to.
-ghost use Rattle.std.specs.Prelude.{◌≡◌, count_by};
+ghost use Rattle.std.specs.Prelude.{◌≡◌};
 ghost use Rattle.std.specs.List.{list_all};
-ghost use Rattle.seatmelon_tally.specs.Counted.{is_explained, is_out_of_memory, is_refused, is_without_packets, status_in};
+ghost use Rattle.seatmelon_audit.specs.declared.answer.Connection.{Connection as Told};
+ghost use Rattle.seatmelon_tally.specs.Counted.{count_answers, ends_file, is_cut, is_explained, is_explained_before, is_of, is_out_of_memory, is_refused, is_without_packets, status_in};
 
-use seatmelon_audit::{Answer, Audit};
+use rasta_pcap::Fault;
+use seatmelon_audit::{Answer, Audit, Before, Connection};
+
+/// What a connection has become.
+#[derive(Clone, Copy)]
+pub enum Kind {
+    Explained,
+    Cut,
+    Refused,
+    WithoutPackets,
+    OutOfMemory,
+}
 
 /// How many connections have become what, and how many packets of them there are.
 #[derive(Clone, Copy, Debug, PartialEq, Eq)]
 pub struct Counts {
     pub explained: u64,
+
+    /// Those that are refused by the fault that ends the file's records, and explained up to there.
+    pub cut: u64,
+
+    /// Those that are refused otherwise.
     pub refused: u64,
     pub without_packets: u64,
 
@@ -25,10 +42,41 @@ fn is_explained(answer: &Answer) -> bool
     matches!(answer, Answer::Explained(_))
 }
 
-fn is_refused(answer: &Answer) -> bool
-    ensures { result ≡ is_refused answer.now }
+// Whether what crossed before a refusal is explained.
+fn is_explained_before(before: &Before) -> bool
+    ensures { result ≡ is_explained_before before.now }
 {
-    matches!(answer, Answer::Refused { .. })
+    matches!(before, Before::Explained(_))
+}
+
+// Whether a fault is the one that ends the records of the file.
+fn ends_file(end: Option<Fault>, fault: Fault) -> bool
+    ensures { result ≡ ends_file end fault }
+{
+    match end {
+        Some(end) => fault.number == end.number && fault.place == end.place,
+        None => false,
+    }
+}
+
+/// Whether a connection is refused by the fault that ends the file's records, if one does, and explained up to there.
+pub fn is_cut(fault: Option<Fault>, answer: &Answer) -> bool
+    ensures { result ≡ is_cut fault answer.now }
+{
+    match answer {
+        Answer::Refused {
+            refusal,
+            before,
+            ..
+        } => is_explained_before(before) && ends_file(fault, refusal.fault),
+        Answer::NoPackets | Answer::Explained(_) | Answer::OutOfMemory => false,
+    }
+}
+
+fn is_refused(fault: Option<Fault>, answer: &Answer) -> bool
+    ensures { result ≡ is_refused fault answer.now }
+{
+    matches!(answer, Answer::Refused { .. }) && !is_cut(fault, answer)
 }
 
 fn is_without_packets(answer: &Answer) -> bool
@@ -43,36 +91,26 @@ fn is_out_of_memory(answer: &Answer) -> bool
     matches!(answer, Answer::OutOfMemory)
 }
 
-fn count_explained(answers: &[Answer]) -> usize
-    ensures { result ≡ count_by is_explained answers.now }
+// Whether an answer is of a kind, in a file whose records end in this fault, if one ends them.
+fn is_of(kind: Kind, fault: Option<Fault>, answer: &Answer) -> bool
+    ensures { result ≡ is_of kind fault answer.now }
 {
-    answers
-        .iter()
-        .filter(|answer| is_explained(*answer))
-        .count()
+    match kind {
+        Kind::Explained => is_explained(answer),
+        Kind::Cut => is_cut(fault, answer),
+        Kind::Refused => is_refused(fault, answer),
+        Kind::WithoutPackets => is_without_packets(answer),
+        Kind::OutOfMemory => is_out_of_memory(answer),
+    }
 }
 
-fn count_refused(answers: &[Answer]) -> usize
-    ensures { result ≡ count_by is_refused answers.now }
+// How many connections have an answer of a kind, in a file whose records end in this fault, if one ends them.
+fn count_of(kind: Kind, fault: Option<Fault>, connections: &[Connection]) -> usize
+    ensures { result ≡ count_answers (is_of kind fault) connections.now }
 {
-    answers.iter().filter(|answer| is_refused(*answer)).count()
-}
-
-fn count_without_packets(answers: &[Answer]) -> usize
-    ensures { result ≡ count_by is_without_packets answers.now }
-{
-    answers
+    connections
         .iter()
-        .filter(|answer| is_without_packets(*answer))
-        .count()
-}
-
-fn count_out_of_memory(answers: &[Answer]) -> usize
-    ensures { result ≡ count_by is_out_of_memory answers.now }
-{
-    answers
-        .iter()
-        .filter(|answer| is_out_of_memory(*answer))
+        .filter(|connection| is_of(kind, fault, &connection.answer))
         .count()
 }
 
@@ -83,28 +121,32 @@ impl Counts {
     pub fn of(audit: &Audit) -> Counts
         ensures { result ≡ counts_in audit.now }
     {
-        let answers = audit.answers.as_slice();
+        let connections = audit.connections.as_slice();
+        let fault = audit.fault;
         Counts {
-            explained: count_explained(answers) as u64,
-            refused: count_refused(answers) as u64,
-            without_packets: count_without_packets(answers) as u64,
-            out_of_memory: count_out_of_memory(answers) as u64,
+            explained: count_of(Kind::Explained, fault, connections) as u64,
+            cut: count_of(Kind::Cut, fault, connections) as u64,
+            refused: count_of(Kind::Refused, fault, connections) as u64,
+            without_packets: count_of(Kind::WithoutPackets, fault, connections) as u64,
+            out_of_memory: count_of(Kind::OutOfMemory, fault, connections) as u64,
             packets: audit.records.saturating_sub(audit.others),
         }
     }
 }
 
-fn are_explained(answers: &[Answer]) -> bool
-    ensures { result ≡ list_all is_explained answers.now }
+fn are_explained(connections: &[Connection]) -> bool
+    ensures { result ≡ list_all (λ (c : Told). is_explained c.answer) connections.now }
 {
-    answers.iter().all(|answer| is_explained(answer))
+    connections
+        .iter()
+        .all(|connection| is_explained(&connection.answer))
 }
 
 /// The exit status: 0 where each connection is explained, else 1.
 pub fn status_of(audit: &Audit) -> u8
-    ensures { result ≡ status_in audit.now.answers.items }
+    ensures { result ≡ status_in audit.now.connections.items }
 {
-    if are_explained(audit.answers.as_slice()) {
+    if are_explained(audit.connections.as_slice()) {
         0
     } else {
         1

@@ -2,11 +2,14 @@
 ghost use Rattle.std.specs.Prelude.{◌≡◌, IfErr};
 ghost use Rattle.rasta_pcap.specs.Fault.{write_failed};
 
-use crate::counts::Counts;
+use crate::counts::{Counts, is_cut};
+use crate::json_facts::{truth, write_facts};
 use rasta_pcap::{CaptureTime, Fault, Side, Sink};
-use seatmelon_audit::{Answer, Audit, Conveyed, Explained, Refusal, Share, ShownCounts, Subject};
+use seatmelon_audit::{
+    Answer, Audit, Before, Connection, Conveyed, Explained, Refusal, Share, ShownOf, Subject,
+};
 use seatmelon_pcapng::Format;
-use seatmelon_survey::FileRefusal;
+use seatmelon_survey::write_fault_json;
 use seatmelon_text::json::{write_long, write_string};
 use seatmelon_text::{tell, write_words};
 
@@ -21,7 +24,7 @@ fn write_conveyed<W: Sink>(writer: &mut W, sender: Side, conveyed: Conveyed) -> 
     write_words(writer, "}")
 }
 
-// Writes what is counted of a connection that is explained.
+// Writes what is counted of packets that are explained.
 fn write_explained<W: Sink>(writer: &mut W, explained: &Explained) -> Result<(), Fault>
     ensures err { IfErr result (λ f. f ≡ write_failed) }
 {
@@ -64,7 +67,7 @@ fn write_end<W: Sink>(writer: &mut W, end: Option<Side>) -> Result<(), Fault>
     }
 }
 
-// Writes number and name of a fault, as an object that is yet to be ended.
+// Writes number and name of a fault.
 fn write_fault<W: Sink>(writer: &mut W, fault: Fault) -> Result<(), Fault>
     ensures err { IfErr result (λ f. f ≡ write_failed) }
 {
@@ -74,7 +77,7 @@ fn write_fault<W: Sink>(writer: &mut W, fault: Fault) -> Result<(), Fault>
         fault.number,
         ",\"name\":\"",
         fault.name(),
-        "\""
+        "\"}"
     )
 }
 
@@ -94,116 +97,124 @@ fn write_share<W: Sink>(
     write_words(writer, "}")
 }
 
-// Writes what was surely taken by the packets alone, or null where that isn't told.
-fn write_shown<W: Sink>(writer: &mut W, shown: Option<ShownCounts>) -> Result<(), Fault>
+// Writes what was surely taken by the packets alone, and on how many of them that rests, or null where it isn't told.
+fn write_shown<W: Sink>(writer: &mut W, shown: &Option<ShownOf>) -> Result<(), Fault>
     ensures err { IfErr result (λ f. f ≡ write_failed) }
 {
     let Some(shown) = shown else {
         return write_words(writer, ",\"from_the_middle\":null");
     };
-    write_share(writer, ",\"from_the_middle\":{", Side::Client, shown.client)?;
-    write_share(writer, ",", Side::Server, shown.server)?;
+    let counts = &shown.counts;
+    tell!(
+        writer,
+        ",\"from_the_middle\":{\"packets\":",
+        counts.packets,
+        ",\"all_fit\":",
+        truth(shown.unfit.is_none())
+    )?;
+    write_share(writer, ",", Side::Client, counts.client)?;
+    write_share(writer, ",", Side::Server, counts.server)?;
     write_words(writer, "}")
 }
 
-// Writes why a connection is refused, and what its packets show alone.
+// Writes whether what crossed before a refusal is explained, or null where nothing did.
+fn write_before<W: Sink>(writer: &mut W, before: &Before) -> Result<(), Fault>
+    ensures err { IfErr result (λ f. f ≡ write_failed) }
+{
+    match before {
+        Before::Nothing => write_words(writer, ",\"before_fault\":null"),
+        Before::Explained(explained) => {
+            write_words(writer, ",\"before_fault\":{\"verdict\":")?;
+            write_explained(writer, explained)?;
+            write_words(writer, "}")
+        }
+        Before::Unexplained { packets, fault } => {
+            write_words(
+                writer,
+                ",\"before_fault\":{\"verdict\":\"refused\",\"packets\":",
+            )?;
+            write_long(writer, *packets)?;
+            write_words(writer, ",\"fault\":")?;
+            write_fault(writer, *fault)?;
+            write_words(writer, "}")
+        }
+    }
+}
+
+// Writes why a connection is refused or cut, what its packets show alone, and whether what crossed before is explained.
 fn write_refusal<W: Sink>(
     writer: &mut W,
+    verdict: &'static str,
     refusal: &Refusal,
-    shown: Option<ShownCounts>,
+    before: &Before,
+    shown: &Option<ShownOf>,
 ) -> Result<(), Fault>
     ensures err { IfErr result (λ f. f ≡ write_failed) }
 {
-    write_words(writer, "\"refused\",\"fault\":")?;
+    tell!(writer, verdict, ",\"fault\":")?;
     write_fault(writer, refusal.fault)?;
-    write_words(writer, "}")?;
     write_subject(writer, refusal.subject)?;
     write_end(writer, refusal.fault.end)?;
-    write_shown(writer, shown)
+    write_shown(writer, shown)?;
+    write_before(writer, before)
 }
 
-// Writes a verdict, with what is told of it.
-fn write_verdict<W: Sink>(writer: &mut W, answer: &Answer) -> Result<(), Fault>
+// How a refusal is called: the connection is cut, or refused.
+fn verdict_of(is_cut: bool) -> &'static str {
+    if is_cut { "\"cut\"" } else { "\"refused\"" }
+}
+
+// Writes a verdict, with what is told of it, in a file that ends in this fault.
+fn write_verdict<W: Sink>(
+    writer: &mut W,
+    answer: &Answer,
+    fault: Option<Fault>,
+) -> Result<(), Fault>
     ensures err { IfErr result (λ f. f ≡ write_failed) }
 {
     match answer {
         Answer::NoPackets => write_words(writer, "\"no_packets\""),
-        Answer::Refused { refusal, shown } => write_refusal(writer, refusal, *shown),
+        Answer::Refused {
+            refusal,
+            before,
+            shown,
+        } => {
+            let verdict = verdict_of(is_cut(fault, answer));
+            write_refusal(writer, verdict, refusal, before, shown)
+        }
         Answer::Explained(explained) => write_explained(writer, explained),
         Answer::OutOfMemory => write_words(writer, "\"out_of_memory\""),
     }
 }
 
-// Writes what becomes of the connection of this name.
-fn write_answer<W: Sink>(
+// Writes what becomes of the connection of this name, and what is told of its packets.
+fn write_connection<W: Sink>(
     writer: &mut W,
     before: &'static str,
     name: &str,
-    answer: &Answer,
+    connection: &Connection,
+    audit: &Audit,
 ) -> Result<(), Fault>
     ensures err { IfErr result (λ f. f ≡ write_failed) }
 {
     tell!(writer, before, "{\"name\":")?;
     write_string(writer, name)?;
     write_words(writer, ",\"verdict\":")?;
-    write_verdict(writer, answer)?;
+    write_verdict(writer, &connection.answer, audit.fault)?;
+    write_facts(writer, &connection.facts, audit.records)?;
     write_words(writer, "}")
 }
 
 // Writes what becomes of each connection.
-fn write_answers<W: Sink>(writer: &mut W, names: &[String], answers: &[Answer]) -> Result<(), Fault>
+fn write_connections<W: Sink>(writer: &mut W, names: &[String], audit: &Audit) -> Result<(), Fault>
     ensures err { IfErr result (λ f. f ≡ write_failed) }
 {
     let mut before = "";
-    for (name, answer) in names.iter().zip(answers.iter()) {
-        write_answer(writer, before, name.as_str(), answer)?;
+    for (name, connection) in names.iter().zip(audit.connections.iter()) {
+        write_connection(writer, before, name.as_str(), connection, audit)?;
         before = ",";
     }
     Ok(())
-}
-
-// Writes the number of the record that a fault names, or null; a fault of the file's header names none.
-fn write_record<W: Sink>(writer: &mut W, place: u32) -> Result<(), Fault>
-    ensures err { IfErr result (λ f. f ≡ write_failed) }
-{
-    if place == 0 {
-        return write_words(writer, ",\"record\":null");
-    }
-    tell!(writer, ",\"record\":", place)
-}
-
-// Writes at which block a file is refused, and why, if it is.
-fn write_block_if<W: Sink>(writer: &mut W, refused: Option<FileRefusal>) -> Result<(), Fault>
-    ensures err { IfErr result (λ f. f ≡ write_failed) }
-{
-    let Some(refused) = refused else {
-        return Ok(());
-    };
-    let refusal = refused.refusal;
-    write_words(writer, ",\"block\":{\"offset\":")?;
-    write_long(writer, refusal.at)?;
-    write_words(writer, ",\"reason\":")?;
-    write_string(writer, refusal.reason.words())?;
-    write_words(writer, "}")
-}
-
-// Writes the fault of a file in this format, or null.
-fn write_file_fault<W: Sink>(
-    writer: &mut W,
-    fault: Option<Fault>,
-    format: Format,
-) -> Result<(), Fault>
-    ensures err { IfErr result (λ f. f ≡ write_failed) }
-{
-    match fault {
-        Some(fault) => {
-            write_fault(writer, fault)?;
-            write_record(writer, fault.place)?;
-            write_block_if(writer, FileRefusal::told_by(fault, format))?;
-            write_words(writer, "}")
-        }
-        None => write_words(writer, "null"),
-    }
 }
 
 // Writes which link type an interface of a file in this format has, if the format tells one other than that of
@@ -218,7 +229,7 @@ fn write_other_link_type<W: Sink>(writer: &mut W, format: Format) -> Result<(), 
 }
 
 /// Writes an audit of a file in this format as one JSON object and a line feed. The names stand in the order of the
-/// answers.
+/// connections.
 pub fn write_audit_json<W: Sink>(
     writer: &mut W,
     names: &[String],
@@ -228,7 +239,7 @@ pub fn write_audit_json<W: Sink>(
     ensures err { IfErr result (λ f. f ≡ write_failed) }
 {
     write_words(writer, "{\"connections\":[")?;
-    write_answers(writer, names, audit.answers.as_slice())?;
+    write_connections(writer, names, audit)?;
     tell!(
         writer,
         "],\"records\":",
@@ -239,7 +250,7 @@ pub fn write_audit_json<W: Sink>(
         audit.others,
         ",\"fault\":"
     )?;
-    write_file_fault(writer, audit.fault, format)?;
+    write_fault_json(writer, audit.fault, format)?;
     write_other_link_type(writer, format)?;
     write_words(writer, "}\n")
 }

@@ -3,8 +3,9 @@
 
 mod counts;
 mod json;
+mod json_facts;
 mod text;
 
-pub use counts::{Counts, status_of};
+pub use counts::{Counts, is_cut, status_of};
 pub use json::write_audit_json;
 pub use text::write_audit;

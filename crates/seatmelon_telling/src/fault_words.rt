@@ -39,9 +39,8 @@ const COPIES: &str =
 /// What to look at behind a gap.
 pub const BEHIND_GAP: &str =
     "the packets of this end around the missing number, with seatmelon show; if the tap may have missed
-  PDUs, what --suppose N says; up to the gap the capture can be explained with last_record, and
-  behind it from a quiet point, of which seatmelon draft CAPTURE N --after RECORD PARAMS proposes
-  some";
+  PDUs, what --suppose N says; behind the gap the capture can be explained from a quiet point, of
+  which seatmelon draft CAPTURE N --after RECORD PARAMS proposes some";
 
 const WRONG_CERTIFICATE: &str =
     "the certificate is wrong: another one may explain the same packets";

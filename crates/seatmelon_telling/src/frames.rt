@@ -19,15 +19,13 @@ const COOKED_2: u16 = 276;
 // The hint on frames of Linux's interface 'any'.
 const ON_ANY: Hint = Hint {
     cause: "the capture was made on the interface 'any'",
-    next_step: "an Ethernet interface, on which to capture again: a cooked capture has no Ethernet headers,
-  and can't be converted without making addresses up",
+    next_step: "the capture of Ethernet frames that this command makes of it: seatmelon convert CAPTURE > OUT",
 };
 
 // The hint on frames of another link type.
 const ON_ANOTHER: Hint = Hint {
     cause: "the capture was made on another kind of interface",
-    next_step: "an Ethernet interface, not 'any', on which to capture again: headers that weren't captured can't be
-  converted without making them up",
+    next_step: "an Ethernet interface, on which to capture again",
 };
 
 // The hint on Ethernet frames of which more is said.

@@ -88,7 +88,12 @@ fn write_skipped<W: Sink>(writer: &mut W, gap: &Gap) -> Result<(), Fault>
             skipped,
             ", as where an end leaves numbers out\n"
         ),
-        (Reason::Late, _) => write_words(writer, "  the number found lies before the one due\n"),
+        (Reason::Late, _) => tell!(
+            writer,
+            "  the number found lies ",
+            gap.skipped().wrapping_neg(),
+            " back from the one due\n"
+        ),
         _ => Ok(()),
     }
 }
@@ -108,7 +113,7 @@ pub fn write_gap<W: Sink>(writer: &mut W, packets: &[Sighting], gap: &Gap) -> Re
         gap.last.numbers.redundancy,
         ", SN ",
         gap.last.numbers.sn,
-        ", first in "
+        ", first copy in "
     )?;
     write_place(writer, packets, gap.last.place)?;
     write_later(writer, due.redundancy, gap.later.as_ref())?;

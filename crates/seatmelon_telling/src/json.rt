@@ -2,6 +2,8 @@
 ghost use Rattle.std.specs.Prelude.{◌≡◌, IfErr};
 ghost use Rattle.rasta_pcap.specs.Fault.{write_failed};
 
+use crate::before_fault::write_before_json;
+use crate::ending::write_course;
 use crate::json_explained::write_explained;
 use crate::json_middle::write_middle;
 use crate::json_notes::{write_passed_over, write_times};
@@ -160,6 +162,7 @@ fn write_counts<W: Sink>(writer: &mut W, account: &Account<'_>) -> Result<(), Fa
     write_window(writer, account, account.window)?;
     write_count(writer, "packets", account.packets.len() as u64)?;
     write_channels(writer, account.channels)?;
+    write_course(writer, account)?;
     write_count(writer, "records_passed_over", account.passed_over())?;
     write_passed_over(writer, account.passed)?;
     write_times(writer, account)?;
@@ -177,6 +180,7 @@ fn write_verdict<W: Sink>(writer: &mut W, account: &Account<'_>) -> Result<(), F
             let verdict = verdict_with(account.hypothesis.as_ref());
             tell!(writer, ",\"verdict\":\"", verdict, "\"")?;
             write_refusal(writer, account, refusal)?;
+            write_before_json(writer, account)?;
             write_middle(writer, account)?;
             write_supposed(writer, account)
         }

@@ -154,8 +154,8 @@ pub fn write_messages<W: Sink>(
     room.write(writer)
 }
 
-// Writes the numbers of the first and of the last message that wasn't shown to be taken, or null.
-fn write_not_shown<W: Sink>(writer: &mut W, numbers: Option<(u64, u64)>) -> Result<(), Fault>
+/// Writes the numbers of the first and of the last message that wasn't shown to be taken, or null.
+pub fn write_not_shown<W: Sink>(writer: &mut W, numbers: Option<(u64, u64)>) -> Result<(), Fault>
     ensures err { IfErr result (λ f. f ≡ write_failed) }
 {
     let Some((first, last)) = numbers else {

@@ -2,11 +2,13 @@
 ghost use Rattle.std.specs.Prelude.{◌≡◌, IfErr};
 ghost use Rattle.rasta_pcap.specs.Fault.{write_failed};
 
-use crate::json_explained::{truth, write_direction, write_messages, write_shares};
+use crate::json::write_count;
+use crate::json_explained::{truth, write_messages, write_not_shown, write_shares};
 use crate::json_places::write_place;
 use crate::middle::{count_proved, middle_premises};
 use rasta_pcap::{Fault, Side, Sink};
-use seatmelon_account::{Account, FromMiddle, Message};
+use seatmelon_account::{Account, Direction, FromMiddle, Message};
+use seatmelon_middle::Share;
 use seatmelon_reading::Sighting;
 use seatmelon_text::json::write_sentence;
 use seatmelon_text::{tell, write_words};
@@ -58,6 +60,36 @@ fn write_again<W: Sink>(
     write_words(writer, "]}")
 }
 
+// The numbers of the first and of the last captured message that isn't shown to be taken, where so many aren't listed.
+fn not_shown_with(direction: &Direction<'_>, left_out: u64) -> Option<(u64, u64)> {
+    let (first, last) = direction.not_shown()?;
+    Some((first, last.saturating_add(left_out)))
+}
+
+// Writes the captured messages of an end, and how many of them aren't listed.
+fn write_captured<W: Sink>(
+    writer: &mut W,
+    packets: &[Sighting],
+    share: Share,
+    left_out: u64,
+    direction: &Direction<'_>,
+) -> Result<(), Fault>
+    ensures err { IfErr result (λ f. f ≡ write_failed) }
+{
+    write_shares(
+        writer,
+        direction.sender,
+        direction.taken,
+        "captured",
+        share.captured,
+    )?;
+    write_not_shown(writer, not_shown_with(direction, left_out))?;
+    write_count(writer, "left_out", left_out)?;
+    write_words(writer, ",\"messages\":[")?;
+    write_messages(writer, packets, &direction.messages)?;
+    write_words(writer, "]}")
+}
+
 // Writes the messages.
 fn write_lists<W: Sink>(
     writer: &mut W,
@@ -67,9 +99,11 @@ fn write_lists<W: Sink>(
     ensures err { IfErr result (λ f. f ≡ write_failed) }
 {
     write_words(writer, ",\"messages\":[")?;
-    write_direction(writer, packets, "captured", &middle.client)?;
+    let (counts, left_out) = (middle.counts, middle.client_left_out);
+    write_captured(writer, packets, counts.client, left_out, &middle.client)?;
     write_words(writer, ",")?;
-    write_direction(writer, packets, "captured", &middle.server)?;
+    let left_out = middle.server_left_out;
+    write_captured(writer, packets, counts.server, left_out, &middle.server)?;
     write_words(writer, "],\"sent_again\":[")?;
     write_again(writer, packets, Side::Client, &middle.client_resent)?;
     write_words(writer, ",")?;

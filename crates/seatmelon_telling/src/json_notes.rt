@@ -3,11 +3,11 @@ ghost use Rattle.std.specs.Prelude.{◌≡◌, IfErr};
 ghost use Rattle.rasta_pcap.specs.Fault.{write_failed};
 
 use crate::json::write_count;
-use crate::json_places::{write_number_if, write_sighting_if};
-use crate::notes::silences_told;
+use crate::json_places::{write_number_if, write_sighting_if, write_time_if};
+use crate::notes::{Longest, silences_told};
 use rasta_pcap::{Fault, Sink};
 use seatmelon_account::Account;
-use seatmelon_reading::{Noticed, PassedOver, Silence};
+use seatmelon_reading::{LastRecord, Noticed, PassedOver, Sighting};
 use seatmelon_text::json::write_long;
 use seatmelon_text::{tell, write_words};
 
@@ -35,20 +35,44 @@ fn write_noticed<W: Sink>(writer: &mut W, key: &'static str, noticed: Noticed) -
     write_words(writer, "},")
 }
 
-// Writes the longest silence of an end, or null.
-fn write_silence<W: Sink>(writer: &mut W, silence: Option<&Silence>) -> Result<(), Fault>
+// Writes how long a silence is, and from which packet on, as an object that is yet to be ended.
+fn begin_silence<W: Sink>(writer: &mut W, nanoseconds: u64, from: &Sighting) -> Result<(), Fault>
     ensures err { IfErr result (λ f. f ≡ write_failed) }
 {
-    let Some(silence) = silence else {
-        return write_words(writer, "null");
-    };
     write_words(writer, "{\"nanoseconds\":")?;
-    write_long(writer, silence.nanoseconds())?;
+    write_long(writer, nanoseconds)?;
     write_words(writer, ",\"from\":")?;
-    write_sighting_if(writer, Some(&silence.before))?;
-    write_words(writer, ",\"to\":")?;
-    write_sighting_if(writer, Some(&silence.after))?;
-    write_words(writer, "}")
+    write_sighting_if(writer, Some(from))
+}
+
+// Writes the last record of what is judged, which is on no channel.
+fn write_last<W: Sink>(writer: &mut W, last: LastRecord) -> Result<(), Fault>
+    ensures err { IfErr result (λ f. f ≡ write_failed) }
+{
+    tell!(writer, "{\"record\":", last.number, ",\"time\":")?;
+    write_time_if(writer, last.time)?;
+    write_words(writer, ",\"channel\":null}")
+}
+
+// Writes the longest silence of an end, or null.
+fn write_silence<W: Sink>(writer: &mut W, longest: Option<Longest>) -> Result<(), Fault>
+    ensures err { IfErr result (λ f. f ≡ write_failed) }
+{
+    match longest {
+        Some(Longest::Between(silence)) => {
+            begin_silence(writer, silence.nanoseconds(), &silence.before)?;
+            write_words(writer, ",\"to\":")?;
+            write_sighting_if(writer, Some(&silence.after))?;
+            write_words(writer, ",\"is_to_end\":false}")
+        }
+        Some(Longest::ToEnd(silence)) => {
+            begin_silence(writer, silence.nanoseconds(), &silence.before)?;
+            write_words(writer, ",\"to\":")?;
+            write_last(writer, silence.end)?;
+            write_words(writer, ",\"is_to_end\":true}")
+        }
+        None => write_words(writer, "null"),
+    }
 }
 
 // Writes how many packets have no time, if some have none.

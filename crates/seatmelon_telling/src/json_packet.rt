@@ -3,6 +3,7 @@ ghost use Rattle.std.specs.Prelude.{◌≡◌, IfErr};
 ghost use Rattle.rasta_pcap.specs.Fault.{write_failed};
 
 use crate::code_lengths::write_code_lengths;
+use crate::gap::{Reason, reason_of};
 use crate::json_places::{write_hex_if, write_number_if, write_place, write_sighting_if};
 use crate::layout::layout_of;
 use crate::packet_text::{payload_and_codes, shown_length, type_name};
@@ -174,6 +175,14 @@ fn write_numbers<W: Sink>(writer: &mut W, numbers: Numbers) -> Result<(), Fault>
     )
 }
 
+// How far the number found lies back from the one that was due, if it does.
+fn back_of(gap: &Gap) -> Option<u32> {
+    match reason_of(gap) {
+        Reason::Late => Some(gap.skipped().wrapping_neg()),
+        _ => None,
+    }
+}
+
 // Writes a gap: which numbers were due and found, where it begins, and where the number that was due crosses later.
 fn write_gap<W: Sink>(writer: &mut W, packets: &[Sighting], gap: &Gap) -> Result<(), Fault>
     ensures err { IfErr result (λ f. f ≡ write_failed) }
@@ -189,6 +198,7 @@ fn write_gap<W: Sink>(writer: &mut W, packets: &[Sighting], gap: &Gap) -> Result
     write_field(writer, "sn_due", Some(due.sn))?;
     write_field(writer, "sn_found", gap.sn_found)?;
     write_field(writer, "numbers_skipped", Some(gap.skipped()))?;
+    write_field(writer, "numbers_back", back_of(gap))?;
     write_field(writer, "sns_skipped", gap.sn_skipped())?;
     write_words(writer, ",\"last_before\":{\"packet\":")?;
     write_place(writer, packets, gap.last.place)?;

@@ -3,6 +3,7 @@ ghost use Rattle.std.specs.Prelude.{◌≡◌, IfErr};
 ghost use Rattle.rasta_pcap.specs.Fault.{write_failed};
 
 use crate::blocks::{block_refused, meaning_of_block};
+use crate::causes::write_causes;
 use crate::frames::{write_link_type_json, write_snapshot_json};
 use crate::json_packet::{write_crossed_if, write_lengths_if, write_packet_if, write_trouble_if};
 use crate::json_places::{write_long_if, write_number_if, write_time_if};
@@ -50,7 +51,9 @@ fn write_fault<W: Sink>(
         "\",\"meaning\":"
     )?;
     write_meaning(writer, account, fault)?;
-    write_words(writer, ",\"cause\":")?;
+    write_words(writer, ",\"conspicuous\":[")?;
+    write_causes(writer, account, refusal, ["\"", ",\"", "\""])?;
+    write_words(writer, "],\"cause\":")?;
     write_sentence(writer, hint.cause)?;
     write_words(writer, ",\"next_step\":")?;
     write_sentence(writer, hint.next_step)?;

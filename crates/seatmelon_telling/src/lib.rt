@@ -1,8 +1,11 @@
 //! An account in words, and as JSON.
 #![tactic(auto)]
 
+mod before_fault;
 mod blocks;
+mod causes;
 mod code_lengths;
+mod ending;
 mod explained;
 mod fault_words;
 mod frames;

@@ -6,7 +6,8 @@ use crate::explained::{strangers, write_premise};
 use crate::messages::write_shown_messages;
 use crate::page::place_of;
 use rasta_pcap::{Fault, Side, Sink};
-use seatmelon_account::{Account, Direction, Extent, FromMiddle, Message};
+use seatmelon_account::{Account, Extent, FromMiddle, Message};
+use seatmelon_middle::Share;
 use seatmelon_reading::Sighting;
 use seatmelon_text::{tell, write_parts, write_words};
 
@@ -47,19 +48,34 @@ pub fn count_proved(messages: &[Message<'_>]) -> u64 {
 }
 
 // Writes how many captured messages of an end were surely taken.
-fn write_taken<W: Sink>(writer: &mut W, direction: &Direction<'_>) -> Result<(), Fault>
+fn write_taken<W: Sink>(writer: &mut W, sender: Side, share: Share) -> Result<(), Fault>
     ensures err { IfErr result (λ f. f ≡ write_failed) }
 {
     tell!(
         writer,
-        direction.sender,
+        sender,
         " to ",
-        direction.sender.other(),
+        sender.other(),
         ": ",
-        direction.taken,
+        share.taken,
         " of ",
-        direction.messages.len() as u64,
+        share.captured,
         " captured messages surely taken, whatever came before and whatever the tap missed\n"
+    )
+}
+
+// Writes how many messages of an end, none of which is shown to be taken, aren't listed, where there are any.
+fn write_left_out<W: Sink>(writer: &mut W, count: u64) -> Result<(), Fault>
+    ensures err { IfErr result (λ f. f ≡ write_failed) }
+{
+    if count == 0 {
+        return Ok(());
+    }
+    tell!(
+        writer,
+        "  the last ",
+        count,
+        " of these, of which none is shown to be taken, aren't listed below\n"
     )
 }
 
@@ -111,8 +127,10 @@ pub fn write_middle<W: Sink>(writer: &mut W, account: &Account<'_>) -> Result<()
         return Ok(());
     };
     write_words(writer, "\n")?;
-    write_taken(writer, &middle.client)?;
-    write_taken(writer, &middle.server)?;
+    write_taken(writer, Side::Client, middle.counts.client)?;
+    write_left_out(writer, middle.client_left_out)?;
+    write_taken(writer, Side::Server, middle.counts.server)?;
+    write_left_out(writer, middle.server_left_out)?;
     write_again(writer, Side::Client, &middle.client_resent)?;
     write_again(writer, Side::Server, &middle.server_resent)?;
     write_bound(writer, account.packets, middle)?;

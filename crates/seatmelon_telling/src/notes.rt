@@ -3,8 +3,8 @@ ghost use Rattle.std.specs.Prelude.{◌≡◌, IfErr};
 ghost use Rattle.rasta_pcap.specs.Fault.{write_failed};
 
 use rasta_pcap::{Fault, Side, Sink};
-use seatmelon_account::Account;
-use seatmelon_reading::{Noticed, Silence};
+use seatmelon_account::{Account, EndSilences};
+use seatmelon_reading::{LastSilence, Noticed, Silence};
 use seatmelon_text::{Part, tell, write_words};
 
 // Writes how many records were passed over for one reason, if there are any.
@@ -43,25 +43,92 @@ pub fn write_passed_over<W: Sink>(writer: &mut W, account: &Account<'_>) -> Resu
     )
 }
 
-// Writes the longest silence of an end, if it sent more than one packet.
-fn write_silence<W: Sink>(writer: &mut W, end: Side, silence: Option<&Silence>) -> Result<(), Fault>
+/// The longest silence of an end.
+#[derive(Clone, Copy)]
+pub enum Longest {
+    /// Between two signs of life.
+    Between(Silence),
+
+    /// From the last one to the end of what is judged.
+    ToEnd(LastSilence),
+}
+
+// The longest silence of an end, if there is one.
+fn longest_of(silences: &EndSilences) -> Option<Longest> {
+    match (silences.longest, silences.to_end) {
+        (Some(longest), Some(to_end)) if longest.nanoseconds() < to_end.nanoseconds() => {
+            Some(Longest::ToEnd(to_end))
+        }
+        (Some(longest), _) => Some(Longest::Between(longest)),
+        (None, Some(to_end)) if to_end.nanoseconds() > 0 => Some(Longest::ToEnd(to_end)),
+        (None, _) => None,
+    }
+}
+
+// Writes how long the silence of an end is.
+fn write_length<W: Sink>(writer: &mut W, end: Side, nanoseconds: u64) -> Result<(), Fault>
     ensures err { IfErr result (λ f. f ≡ write_failed) }
 {
-    let Some(silence) = silence else {
-        return Ok(());
-    };
     tell!(
         writer,
         "  longest silence of the ",
         end,
         ": ",
-        Part::Milliseconds(silence.nanoseconds()),
-        " ms, between records ",
+        Part::Milliseconds(nanoseconds),
+        " ms, "
+    )
+}
+
+// Writes the silence of an end that lasts to the end of what is judged.
+fn write_to_end<W: Sink>(
+    writer: &mut W,
+    account: &Account<'_>,
+    silence: &LastSilence,
+) -> Result<(), Fault>
+    ensures err { IfErr result (λ f. f ≡ write_failed) }
+{
+    let whole = if account.window.is_some() {
+        " to the end of the window, record "
+    } else {
+        " to the end of the capture, record "
+    };
+    tell!(
+        writer,
+        "from record ",
         silence.before.record,
-        " and ",
-        silence.after.record,
+        whole,
+        silence.end.number,
         "\n"
     )
+}
+
+// Writes the longest silence of an end, if it gave more than one sign of life, or none to the end.
+fn write_silence<W: Sink>(
+    writer: &mut W,
+    account: &Account<'_>,
+    end: Side,
+    longest: Option<Longest>,
+) -> Result<(), Fault>
+    ensures err { IfErr result (λ f. f ≡ write_failed) }
+{
+    match longest {
+        Some(Longest::Between(silence)) => {
+            write_length(writer, end, silence.nanoseconds())?;
+            tell!(
+                writer,
+                "between records ",
+                silence.before.record,
+                " and ",
+                silence.after.record,
+                "\n"
+            )
+        }
+        Some(Longest::ToEnd(silence)) => {
+            write_length(writer, end, silence.nanoseconds())?;
+            write_to_end(writer, account, &silence)
+        }
+        None => Ok(()),
+    }
 }
 
 // Writes of how many records something is noted, and the first of them, if there are any.
@@ -85,12 +152,12 @@ fn write_noticed<W: Sink>(writer: &mut W, what: &'static str, noticed: Noticed) 
 
 /// The longest silence of the client and of the server. None is told where packets have no time: a longer one may be
 /// beside these.
-pub fn silences_told<'a>(account: &'a Account<'_>) -> [Option<&'a Silence>; 2] {
+pub fn silences_told(account: &Account<'_>) -> [Option<Longest>; 2] {
     let [client, server] = &account.silences;
     if account.untimed > 0 {
         [None, None]
     } else {
-        [client.as_ref(), server.as_ref()]
+        [longest_of(client), longest_of(server)]
     }
 }
 
@@ -128,8 +195,8 @@ pub fn write_times<W: Sink>(writer: &mut W, account: &Account<'_>) -> Result<(),
         return Ok(());
     }
     write_words(writer, "Times of capture, which no verdict reads:\n")?;
-    write_silence(writer, Side::Client, client)?;
-    write_silence(writer, Side::Server, server)?;
+    write_silence(writer, account, Side::Client, client)?;
+    write_silence(writer, account, Side::Server, server)?;
     write_untimed(writer, account.untimed)?;
     write_noticed(
         writer,

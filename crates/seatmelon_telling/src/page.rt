@@ -2,6 +2,7 @@
 ghost use Rattle.std.specs.Prelude.{◌≡◌, IfErr};
 ghost use Rattle.rasta_pcap.specs.Fault.{write_failed};
 
+use crate::ending::write_ending;
 use crate::frames::write_named;
 use crate::notes::{write_passed_over, write_times};
 use rasta_pcap::{Fault, Sink};
@@ -192,6 +193,7 @@ fn write_counts<W: Sink>(writer: &mut W, account: &Account<'_>) -> Result<(), Fa
     let packets = account.packets.len() as u64;
     tell!(writer, "  packets of the connection: ", packets, "\n")?;
     write_channels(writer, account)?;
+    write_ending(writer, account)?;
     write_outside(writer, account)?;
     write_passed_over(writer, account)
 }

@@ -2,7 +2,9 @@
 ghost use Rattle.std.specs.Prelude.{◌≡◌, IfErr};
 ghost use Rattle.rasta_pcap.specs.Fault.{write_failed};
 
+use crate::before_fault::write_before;
 use crate::blocks::{block_refused, meaning_of_block};
+use crate::causes::write_causes;
 use crate::code_lengths::write_code_lengths;
 use crate::fault_words::words_of;
 use crate::frames::{write_link_type, write_snapshot};
@@ -13,7 +15,7 @@ use crate::packet_text::{write_codes, write_datagram, write_differences, write_p
 use crate::page::{write_judged, write_place, write_sighting, write_without};
 use crate::rule::write_rule;
 use crate::supposed::{write_supposed, write_supposed_messages};
-use crate::words::{Hint, fits_none, hint_of, meaning_in};
+use crate::words::{fits_none, hint_of, meaning_in};
 use rasta_pcap::{CaptureTime, Fault, Sink};
 use seatmelon_account::{
     Account, Crossed, Extent, FirstCopy, NamedPacket, Refusal, RefusedEntry, RefusedPacket,
@@ -47,13 +49,20 @@ fn write_fault<W: Sink>(writer: &mut W, account: &Account<'_>, fault: Fault) -> 
     write_snapshot(writer, fault, account.header)
 }
 
-// Writes what may be the cause of a fault, and what to look at next.
-fn write_hint<W: Sink>(writer: &mut W, hint: Hint) -> Result<(), Fault>
+// Writes what may be the cause of a fault, first what is conspicuous, and what to look at next.
+fn write_hint<W: Sink>(
+    writer: &mut W,
+    account: &Account<'_>,
+    refusal: &Refusal<'_>,
+) -> Result<(), Fault>
     ensures err { IfErr result (λ f. f ≡ write_failed) }
 {
+    let hint = hint_of(account, refusal);
+    write_words(writer, "\nmay be the cause:\n")?;
+    write_causes(writer, account, refusal, ["  ", "  ", "\n"])?;
     tell!(
         writer,
-        "\nmay be the cause:\n  ",
+        "  ",
         hint.cause,
         "\nlook next at:\n  ",
         hint.next_step,
@@ -352,7 +361,8 @@ pub fn write_refusal<W: Sink>(
 {
     write_fault(writer, account, refusal.fault)?;
     write_subject(writer, account, refusal)?;
-    write_hint(writer, hint_of(account, refusal))?;
+    write_hint(writer, account, refusal)?;
+    write_before(writer, account)?;
     write_middle(writer, account)?;
     write_supposed(writer, account)?;
     write_judged(writer, account)?;

@@ -175,7 +175,7 @@ pub fn write_rule<W: Sink>(
 {
     write_words(
         writer,
-        "the rule that refuses it, found by a walk beside the verdict and no part of it:\n  ",
+        "the rule that it breaks, found by a second pass, on which the verdict doesn't rest:\n  ",
     )?;
     write_parts(writer, &sentence(broken))?;
     write_words(writer, "\n")?;

@@ -9,7 +9,7 @@ use rasta_pcap::{Fault, Sink};
 use rasta_pdu::Kind;
 use seatmelon_account::{Account, Direction, Extent, Hypothesis};
 use seatmelon_reading::Sighting;
-use seatmelon_suppose::{Filled, Filling, Gap, Supposed, Tried};
+use seatmelon_suppose::{Filled, Filling, Gap, Supposed, Supposition, Tried};
 use seatmelon_text::{tell, write_parts, write_words};
 
 const SAYS: &str = "
@@ -122,7 +122,7 @@ fn write_values<W: Sink>(writer: &mut W, fillings: &[Filling], pdu: &Supposed) -
         ", ",
         pdu.fields.kind.name(),
         messages_of(pdu.fields.kind),
-        ": CS ",
+        ", for example CS ",
         pdu.fields.cs,
         ", TS "
     )?;
@@ -130,16 +130,66 @@ fn write_values<W: Sink>(writer: &mut W, fillings: &[Filling], pdu: &Supposed) -
     write_owners(writer, fillings, pdu)
 }
 
-// Writes what the fillings say of a supposed PDU, each once.
-fn write_pdu<W: Sink>(
+// What was tried in a gap, where a PDU is the first one that is missing there.
+fn tried_for<'a>(gaps: &'a [Filled], pdu: &Supposed) -> Option<&'a Filled> {
+    gaps.iter().find(|filled| filled.gap.sender == pdu.sender
+        && filled.gap.before.number.wrapping_add(1) == pdu.fields.number)
+}
+
+// Whether one of these fillings has this type for a PDU.
+fn has_kind(fillings: &[Filling], pdu: &Supposed) -> bool {
+    fillings.iter().any(|filling| match same_in(filling, pdu) {
+        Some(other) => other.fields.kind.is(pdu.fields.kind),
+        None => false,
+    })
+}
+
+// How many types the fillings have for a PDU.
+fn count_kinds(fillings: &[Filling], pdu: &Supposed) -> u64 {
+    let mut count = 0u64;
+    for (number, filling) in fillings.iter().enumerate() {
+        if let Some(other) = same_in(filling, pdu) {
+            if !has_kind(&fillings[..number], other) {
+                count = count.saturating_add(1);
+            }
+        }
+    }
+    count
+}
+
+// Writes how many of the types that were tried for the first missing PDU of a gap fit.
+fn write_fit<W: Sink>(
     writer: &mut W,
-    packets: &[Sighting],
-    fillings: &[Filling],
+    supposition: &Supposition,
     pdu: &Supposed,
 ) -> Result<(), Fault>
     ensures err { IfErr result (λ f. f ≡ write_failed) }
 {
+    let Some(filled) = tried_for(&supposition.gaps, pdu) else {
+        return Ok(());
+    };
+    tell!(
+        writer,
+        "    types that fit: ",
+        count_kinds(&supposition.fillings, pdu),
+        " of ",
+        filled.tried.len() as u64,
+        " that were tried\n"
+    )
+}
+
+// Writes what the fillings say of a supposed PDU, each once.
+fn write_pdu<W: Sink>(
+    writer: &mut W,
+    packets: &[Sighting],
+    supposition: &Supposition,
+    pdu: &Supposed,
+) -> Result<(), Fault>
+    ensures err { IfErr result (λ f. f ≡ write_failed) }
+{
+    let fillings = supposition.fillings.as_slice();
     write_front(writer, packets, pdu)?;
+    write_fit(writer, supposition, pdu)?;
     for (number, filling) in fillings.iter().enumerate() {
         if let Some(other) = same_in(filling, pdu) {
             if !is_told(&fillings[..number], other) {
@@ -214,7 +264,7 @@ fn write_fillings<W: Sink>(
         ", as a hypothesis: if the tap missed what follows, the rules can explain all packets\n"
     )?;
     for pdu in &first.pdus {
-        write_pdu(writer, account.packets, fillings, pdu)?;
+        write_pdu(writer, account.packets, &hypothesis.supposition, pdu)?;
     }
     write_taken(writer, &hypothesis.client, fillings.len())?;
     write_taken(writer, &hypothesis.server, fillings.len())?;

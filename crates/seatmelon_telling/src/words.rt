@@ -1,5 +1,6 @@
 //! What a refusal means, what may be its cause, and what to look at next.
 use crate::blocks::{block_refused, hint_on_block};
+use crate::causes::is_in_middle;
 use crate::fault_words::{BEHIND_GAP, FaultWords, words_of};
 use crate::frames::{hint_on_frames, meaning_of_frames};
 use crate::gap::{Reason, reason_of};
@@ -30,6 +31,14 @@ const WITHOUT_OPENING: Hint = Hint {
   or the opening is there, but outside the window or on a channel that isn't recorded",
     next_step: "the quiet points that seatmelon draft proposes, one of which the engineering data or a log
   has to confirm; or the window and the channels in the parameters",
+};
+
+// The hint on a first packet of an end, where the packets begin in the middle of a connection.
+const IN_THE_MIDDLE: Hint = Hint {
+    cause: "the capture begins in the middle of the connection, and the parameters record no quiet point;
+  or the tap missed PDUs right at the beginning",
+    next_step: "what the packets show alone, below; or a quiet point behind these packets, of which
+  seatmelon draft CAPTURE N --after RECORD PARAMS proposes some",
 };
 
 // The hint on a packet that the other end should have sent.
@@ -118,6 +127,7 @@ pub fn hint_of(account: &Account<'_>, refusal: &Refusal<'_>) -> Hint {
             lacks_opening: true,
             ..
         } => WITHOUT_OPENING,
+        Subject::Record { .. } if is_in_middle(account, refusal) => IN_THE_MIDDLE,
         Subject::Record {
             packet: Some(packet),
             codes,

@@ -3,7 +3,7 @@ use crate::{audit, show};
 use clap::builder::ValueParser;
 use clap::error::ErrorKind;
 use clap::{Arg, ArgAction, ArgMatches, Command, Error, value_parser};
-use seatmelon_commands::{After, Drafting, Explaining, Showing};
+use seatmelon_commands::{After, Drafting, Explaining, Showing, SurveyForm, Surveying};
 use seatmelon_explain::{Extent, Form, Selection};
 use seatmelon_many::{Auditing, DraftingAll};
 use std::alloc::{AllocError, Global};
@@ -12,7 +12,7 @@ use std::alloc::{AllocError, Global};
 #[derive(Drop)]
 pub enum Request<'a> {
     /// Which connections a capture seems to hold.
-    Survey { capture: &'a str },
+    Survey(Surveying<'a>),
 
     /// A parameter file for the connection of this number, from 1.
     Draft(Drafting<'a>),
@@ -73,7 +73,8 @@ fn survey<'a>(alloc: Global) -> Result<Command<'a>, AllocError> {
     Command::new(alloc, "survey")
         .about("Tells which RaSTA connections a capture seems to hold")
         .after_help(SURVEY_STATUSES)
-        .arg(capture(alloc))
+        .arg(capture(alloc))?
+        .arg(json(alloc))
 }
 
 fn draft<'a>(alloc: Global) -> Result<Command<'a>, AllocError> {
@@ -228,7 +229,9 @@ fn explain<'a>(alloc: Global) -> Result<Command<'a>, AllocError> {
 
 fn convert<'a>(alloc: Global) -> Result<Command<'a>, AllocError> {
     Command::new(alloc, "convert")
-        .about("Writes the packets of a pcapng file as a classic libpcap file to standard output")
+        .about(
+            "Writes the packets of a pcapng file, or of Linux's device 'any', as a classic file of Ethernet frames",
+        )
         .after_help(CONVERT_STATUSES)
         .arg(capture(alloc))
 }
@@ -339,6 +342,18 @@ fn explaining_in<'a>(
     })))
 }
 
+// What the words of `survey` ask for.
+fn surveying_in<'a>(matches: &ArgMatches<'a>, capture: &'a str) -> Surveying<'a> {
+    Surveying {
+        capture,
+        form: if matches.get_flag("json") {
+            SurveyForm::Json
+        } else {
+            SurveyForm::Text
+        },
+    }
+}
+
 fn drafting_in<'a>(matches: &ArgMatches<'a>, capture: &'a str) -> Option<Request<'a>> {
     if let Some(folder) = matches.get_str("all") {
         return Some(Request::DraftAll(DraftingAll { capture, folder }));
@@ -363,7 +378,7 @@ fn request_in<'a>(alloc: Global, matches: &ArgMatches<'a>) -> Result<Option<Requ
         return Ok(None);
     };
     match name {
-        "survey" => Ok(Some(Request::Survey { capture })),
+        "survey" => Ok(Some(Request::Survey(surveying_in(inner, capture)))),
         "audit" => Ok(Some(Request::Audit(audit::auditing_in(alloc, inner, capture)?))),
         "show" => Ok(show::showing_in(alloc, inner, capture)?.map(Request::Show)),
         "explain" => Ok(explaining_in(alloc, inner, capture)?),

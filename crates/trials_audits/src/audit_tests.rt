@@ -1,8 +1,8 @@
 //! The texts of audits, and what is answered where a device goes wrong.
 use crate::cases::{Case, GREAT_JSON, GREAT_TEXT, Given, MARK, audits, case_in, in_turn, line_of};
 use rasta_pcap::devices::{FailAt, Pieces, WriteDevice};
-use rasta_pcap::{Counted, Fault, Sink, Source};
-use seatmelon_audit::{Answer, Audit, Conveyed, Explained, audit};
+use rasta_pcap::{CaptureTime, Counted, Fault, FractionUnit, Sink, Source};
+use seatmelon_audit::{Answer, Audit, Connection, Conveyed, Explained, Facts, Span, Stamp, audit};
 use seatmelon_pcapng::{Format, Reason, Refusal, Remarks};
 use seatmelon_tally::{status_of, write_audit, write_audit_json};
 use std::alloc::Global;
@@ -95,10 +95,44 @@ fn told_audits(rt: HostRuntime) {
     }
 }
 
+// What is told of a connection with this window and these records, whose course isn't known.
+fn facts(first_record: u32, last_record: u32, quiet_record: Option<u32>, span: Span) -> Facts {
+    Facts {
+        first_record,
+        last_record,
+        quiet_record,
+        span,
+        opens: span.first.map(|_| false),
+        course: None,
+        ending: None,
+        reopening: None,
+    }
+}
+
+// The record of this number, which was captured so many seconds after the beginning of 1970.
+fn stamp(number: u32) -> Stamp {
+    Stamp {
+        record: number,
+        time: CaptureTime {
+            seconds: number,
+            fraction: 0,
+            unit: FractionUnit::Microseconds,
+        },
+    }
+}
+
 // An audit of which one connection has no memory, and the counts of the other one are above 2^53.
 fn great_audit(alloc: Global) -> Option<Audit> {
-    let mut answers = Vec::new(alloc);
-    answers.push(Answer::OutOfMemory).ok()?;
+    let mut connections = Vec::new(alloc);
+    let span = Span {
+        first: Some(stamp(3)),
+        last: Some(stamp(5)),
+    };
+    let short = Connection {
+        answer: Answer::OutOfMemory,
+        facts: facts(2, 4_000_000_000, Some(2), span),
+    };
+    connections.push(short).ok()?;
     let explained = Answer::Explained(Explained {
         packets: 9_007_199_254_740_993,
         client: Conveyed {
@@ -107,9 +141,17 @@ fn great_audit(alloc: Global) -> Option<Audit> {
         },
         server: Conveyed { sent: 1, taken: 0 },
     });
-    answers.push(explained).ok()?;
+    let none = Span {
+        first: None,
+        last: None,
+    };
+    let great = Connection {
+        answer: explained,
+        facts: facts(1, 4_000_000_000, None, none),
+    };
+    connections.push(great).ok()?;
     Some(Audit {
-        answers,
+        connections,
         records: 7,
         others: 1,
         fault: None,
@@ -145,7 +187,7 @@ fn great_counts_and_no_memory(rt: HostRuntime) {
 // Ethernet's, and is refused at a block behind its first record.
 fn text_on_refused(alloc: Global, form: Form) -> Option<Vec<u8>> {
     let audit = Audit {
-        answers: Vec::new(alloc),
+        connections: Vec::new(alloc),
         records: 1,
         others: 1,
         fault: Some(Fault::at(Fault::CUT_RECORD, 2)),
@@ -165,7 +207,7 @@ fn text_on_refused(alloc: Global, form: Form) -> Option<Vec<u8>> {
 const REFUSED_TEXT: &str =
     "an interface of this file has link type 276 (Linux cooked capture v2): its packets are of no connection\n\
     after 1 record, at byte 60: the two lengths of a block differ (14 CutRecord)\n\
-    0 connections; 0 packets; 1 record of none of them\n";
+    0 connections; 0 packets; 1 record of none of these connections\n";
 
 const REFUSED_JSON: &str = "{\"connections\":[],\"records\":1,\"packets\":0,\"others\":1,\
     \"fault\":{\"number\":14,\"name\":\"CutRecord\",\"record\":2,\
@@ -247,7 +289,7 @@ fn first_wrong_write(alloc: Global, form: Form) -> Option<Option<u64>> {
     let audit = audited(alloc, &given, &mut reader)?.ok()?;
     let names = given.names.as_slice();
     let want = wanted(alloc, form, &case)?;
-    for call in 0..150 {
+    for call in 0..300 {
         let failing = FailAt::new(Vec::new(alloc), call);
         let idling = FailAt::idle_at(Vec::new(alloc), call);
         let is_right = is_right_by(form, names, &audit, want.as_str(), failing);

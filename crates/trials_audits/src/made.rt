@@ -22,12 +22,16 @@ fn channel_in(net: u8) -> Channel {
 }
 
 /// The parameters of a connection, `NET FIRST LAST`: between the hosts of a net, for the records from the first to the
-/// last.
+/// last; with a further word, from the quiet point of the parameters of this name.
 pub fn params_in(words: &str) -> Option<Params> {
     let mut words = words.split(' ');
     let net = words.next()?.parse().ok()?;
     let first_record = words.next()?.parse().ok()?;
     let last_record = words.next()?.parse().ok()?;
+    let quiet = match words.next() {
+        Some(word) => params_of(word)?.quiet(),
+        None => None,
+    };
     Params::new(
         96,
         97,
@@ -40,7 +44,7 @@ pub fn params_in(words: &str) -> Option<Params> {
         first_record,
         last_record,
         &[channel_in(net)],
-        None,
+        quiet,
     )
 }
 

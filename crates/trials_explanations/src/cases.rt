@@ -127,6 +127,7 @@ What was judged:
   packets of the connection: 5
     on channel 1, 10.0.0.1:5000 - 10.0.0.2:5000: from the client 3, from the server 2
     on channel 2, 10.0.1.1:5001 - 10.0.1.2:5001: no packet
+  end of the connection: none, it is still open at the end of the capture
   records passed over: 0
   ids: client 96, server 97
   lengths: safety code 0, check code 0

@@ -339,6 +339,126 @@ connection 2
   a check code of 0 bytes fits the length of 2 of 2 packets
   client sent connection request: 1
   client sent data: 1
+== data plain: 0 1 0@9 1@9 2 2@9 | 310=96 314=97 418=97 422=96 620=96 624=97 | Between other hosts the ids are exchanged: another connection.
+records: 6
+packets of RaSTA: 6
+other records, passed over: 0
+
+connection 1
+  client id 96, version 0303, N_sendmax 20
+  server id 97, version 0303, N_sendmax 20
+  records 1 to 5
+  captured from 1970-01-01 00:00:00.000000 to 1970-01-01 00:00:00.000000 UTC
+  opened by the client at record 1
+  no disconnection request was captured
+  channel 1: 10.0.0.1:5000 - 10.0.0.2:5000, packets to the server: 2, to the client: 1
+  a safety code of 0 bytes fits the length of 3 of 3 packets
+  a check code of 0 bytes fits the length of 3 of 3 packets
+  client sent connection request: 1
+  client sent heartbeat: 1
+  server sent connection response: 1
+
+connection 2
+  client id 97, version 0303, N_sendmax 20
+  server id 96, version 0303, N_sendmax 20
+  records 3 to 6
+  captured from 1970-01-01 00:00:00.000000 to 1970-01-01 00:00:00.000000 UTC
+  opened by the client at record 3
+  no disconnection request was captured
+  channel 1: 10.9.9.9:5000 - 10.9.9.8:5000, packets to the server: 2, to the client: 1
+  a safety code of 0 bytes fits the length of 3 of 3 packets
+  a check code of 0 bytes fits the length of 3 of 3 packets
+  client sent connection request: 1
+  client sent heartbeat: 1
+  server sent connection response: 1
+== data plain: 2 2@9 4 4@9 | 188=96 192=97 376=97 380=96 | The same from the middle: the first packet of the end 97 between the other hosts confirms no packet of the first connection.
+records: 4
+packets of RaSTA: 4
+other records, passed over: 0
+
+connection 1
+  end 1 id 96
+  end 2 id 97
+  records 1 to 3
+  captured from 1970-01-01 00:00:00.000000 to 1970-01-01 00:00:00.000000 UTC
+  no opening was captured
+  no disconnection request was captured
+  channel 1: 10.0.0.1:5000 - 10.0.0.2:5000, packets to the end 2: 1, to the end 1: 1
+  a safety code of 0 bytes fits the length of 2 of 2 packets
+  a check code of 0 bytes fits the length of 2 of 2 packets
+  end 1 sent heartbeat: 1
+  end 2 sent heartbeat: 1
+
+connection 2
+  end 1 id 97
+  end 2 id 96
+  records 2 to 4
+  captured from 1970-01-01 00:00:00.000000 to 1970-01-01 00:00:00.000000 UTC
+  no opening was captured
+  no disconnection request was captured
+  channel 1: 10.9.9.9:5000 - 10.9.9.8:5000, packets to the end 2: 1, to the end 1: 1
+  a safety code of 0 bytes fits the length of 2 of 2 packets
+  a check code of 0 bytes fits the length of 2 of 2 packets
+  end 1 sent heartbeat: 1
+  end 2 sent heartbeat: 1
+== data plain: 0 1@2 4@2 2 |  | The server's first packet crosses on a second network, and confirms one that crossed on the first: one connection.
+records: 4
+packets of RaSTA: 4
+other records, passed over: 0
+
+connection 1
+  client id 96, version 0303, N_sendmax 20
+  server id 97, version 0303, N_sendmax 20
+  records 1 to 4
+  captured from 1970-01-01 00:00:00.000000 to 1970-01-01 00:00:00.000000 UTC
+  opened by the client at record 1
+  no disconnection request was captured
+  channel 1: 10.0.0.1:5000 - 10.0.0.2:5000, packets to the server: 2, to the client: 0
+  channel 2: 10.0.1.1:5001 - 10.0.1.2:5001, packets to the server: 0, to the client: 2
+  a safety code of 0 bytes fits the length of 4 of 4 packets
+  a check code of 0 bytes fits the length of 4 of 4 packets
+  client sent connection request: 1
+  client sent heartbeat: 1
+  server sent connection response: 1
+  server sent heartbeat: 1
+== data plain: 2 4 3@2 |  | The next packet of an end crosses on a second network: one connection.
+records: 3
+packets of RaSTA: 3
+other records, passed over: 0
+
+connection 1
+  end 1 id 96
+  end 2 id 97
+  records 1 to 3
+  captured from 1970-01-01 00:00:00.000000 to 1970-01-01 00:00:00.000000 UTC
+  no opening was captured
+  no disconnection request was captured
+  channel 1: 10.0.0.1:5000 - 10.0.0.2:5000, packets to the end 2: 1, to the end 1: 1
+  channel 2: 10.0.1.1:5001 - 10.0.1.2:5001, packets to the end 2: 1, to the end 1: 0
+  a safety code of 0 bytes fits the length of 3 of 3 packets
+  a check code of 0 bytes fits the length of 3 of 3 packets
+  end 1 sent heartbeat: 1
+  end 1 sent data: 1
+  end 2 sent heartbeat: 1
+== data plain: 2 4 0 |  | The opening comes late, in a capture from the middle.
+records: 3
+packets of RaSTA: 3
+other records, passed over: 0
+
+connection 1
+  end 1 id 96, version 0303, N_sendmax 20
+  end 2 id 97
+  records 1 to 3
+  captured from 1970-01-01 00:00:00.000000 to 1970-01-01 00:00:00.000000 UTC
+  opened before the capture began
+  no disconnection request was captured
+  channel 1: 10.0.0.1:5000 - 10.0.0.2:5000, packets to the end 2: 2, to the end 1: 1
+  a safety code of 0 bytes fits the length of 3 of 3 packets
+  a check code of 0 bytes fits the length of 3 of 3 packets
+  end 1 sent connection request: 1
+  end 1 sent heartbeat: 1
+  end 1's numbers that came late: 1
+  end 2 sent heartbeat: 1
 == data plain: 0%50 |  | Cut packet.
 records: 1
 packets of RaSTA: 0

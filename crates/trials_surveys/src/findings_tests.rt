@@ -82,6 +82,17 @@ impl Former {
         last
     }
 
+    // The place of the last connection that can have the packet.
+    fn find_for(&self, packet: &Packet) -> Option<usize> {
+        let mut last = None;
+        for (place, connection) in self.connections.iter().enumerate() {
+            if connection.can_have(packet) {
+                last = Some(place);
+            }
+        }
+        last
+    }
+
     // The place of the connection that the packet opened.
     fn find_opened(&self, packet: &Packet) -> Option<usize> {
         self.connections
@@ -89,7 +100,7 @@ impl Former {
             .position(|connection| connection.is_opened_by(packet))
     }
 
-    // The place of the connection whose opening came late, while the last one between its ends stands there.
+    // The place of the connection whose opening came late, while the last one that can have it stands there.
     fn find_late(&self, last: usize) -> Option<usize> {
         let mut place = None;
         for late in &self.late {
@@ -131,7 +142,7 @@ impl Former {
     }
 
     fn add_packet(&mut self, alloc: Global, packet: &Packet) -> Option<()> {
-        let Some(last) = self.find_last(packet) else {
+        let Some(last) = self.find_for(packet) else {
             return self.begin(alloc, packet);
         };
         if let Some(place) = self.find_opened(packet) {
@@ -143,7 +154,9 @@ impl Former {
             return self.add_late(place?, last, packet);
         }
         if self.connection(last)?.is_followed_by(packet) {
-            self.late.push(LateOpening { last, place: None }).ok()?;
+            if self.connections.len() >= MOST_CONNECTIONS {
+                self.late.push(LateOpening { last, place: None }).ok()?;
+            }
             return self.begin(alloc, packet);
         }
         match self.find_late(last) {
@@ -389,7 +402,7 @@ fn connections_are_as_before(rt: HostRuntime) {
             assert_eq!(rt; are_same, Some(true), "traffic {place}, seed {seed}");
         }
     }
-    assert!(rt; late > 200, "{late}");
+    assert!(rt; late > 100, "{late}");
 }
 
 // More connections than are told apart, between many ends.

@@ -51,6 +51,49 @@ fn texts(rt: HostRuntime) {
     }
 }
 
+// A number is missing, the client ends, its opening comes once more, a datagram was captured cut, and so is the file.
+const MIXED: Case<'static> = Case {
+    parts: "data plain: 0 1 3 5 0 2%60 4 cut",
+    changes: "",
+    name: "As JSON.",
+    want: concat!(
+        r#"{"records":6,"packets":5,"passed_over":1,"left_out":0,"captured_cut":1,"snapshot_length":null,"#,
+        r#""connections":[{"connection":1,"ends":["#,
+        r#"{"name":"client","id":96,"version":"0303","n_sendmax":20,"ended":{"record":4,"reason":4},"#,
+        r#""sent":[{"type":"connection request","count":1},{"type":"disconnection request","count":1},"#,
+        r#"{"type":"data","count":1}],"gaps":1,"missing":1,"first_gap":{"number":8,"record":3},"#,
+        r#""late":0,"copies":1,"differing_copies":0,"too_old":0},"#,
+        r#"{"name":"server","id":97,"version":"0303","n_sendmax":20,"ended":null,"#,
+        r#""sent":[{"type":"connection response","count":1}],"gaps":0,"missing":0,"first_gap":null,"#,
+        r#""late":0,"copies":0,"differing_copies":0,"too_old":0}],"#,
+        r#""first_record":1,"last_record":5,"first_time":"1970-01-01 00:00:00.000000 UTC","#,
+        r#""last_time":"1970-01-01 00:00:00.000000 UTC","opened_at":1,"opened_before":false,"#,
+        r#""late_copies":{"count":1,"first_record":5,"last_record":5},"#,
+        r#""channels":[{"channel":1,"ends":["10.0.0.1:5000","10.0.0.2:5000"],"from_first":4,"from_second":1}],"#,
+        r#""packets_on_further_channels":0,"packets":5,"safety_code":[{"length":0,"fits":5},"#,
+        r#"{"length":8,"fits":0,"start_words_fit":0},{"length":16,"fits":0,"start_words_fit":0}],"#,
+        r#""check_code":[{"length":0,"fits":5},{"length":2,"fits":0},{"length":4,"fits":0}],"captured_cut":1}],"#,
+        r#""only_captured_cut":[],"more_pairs":0,"not_told_apart":0,"#,
+        r#""fault":{"number":14,"name":"CutRecord","record":7}}"#,
+        "\n"
+    ),
+};
+
+fn is_json(alloc: Global, case: &Case<'_>) -> Option<bool> {
+    let file = file_with(alloc, case.parts, case.changes)?;
+    let mut writer = Counted::new(Vec::new(alloc));
+    surveyed(alloc, &file, 7)
+        .ok()?
+        .write_json(&mut writer)
+        .ok()?;
+    Some(writer.into_inner().as_slice() == case.want.as_bytes())
+}
+
+#[test]
+fn json(rt: HostRuntime) {
+    assert_eq!(rt; is_json(rt.alloc(), &MIXED), Some(true));
+}
+
 // The fault behind the records of a capture that is cut in its last record.
 fn fault_of_cut(alloc: Global) -> Option<Fault> {
     let (_, file) = file_of(alloc, "data plain", "0 1 2 cut")?;

@@ -39,12 +39,12 @@ const REFUSED: [Refused; 8] = [
     Refused {
         file: b"\xd4\xc3\xb2\xa1\x02\0\x04\0\0\0\0\0\0\0\0\0\0\0\x04\0\x71\0\0\0",
         text: "1 c: its frames are not Ethernet frames but of link type 113 (Linux cooked capture) (12 LinkType)\n\
-               capture on an Ethernet interface, not on 'any': frames without Ethernet headers can't be converted",
+               make Ethernet frames of them: seatmelon convert CAPTURE > OUT",
     },
     Refused {
         file: b"\xa1\xb2\xc3\xd4\0\x02\0\x04\0\0\0\0\0\0\0\0\0\x04\0\0\0\0\0\xc8",
         text: "1 c: its frames are not Ethernet frames but of link type 200 (12 LinkType)\n\
-               capture on an Ethernet interface, not on 'any': frames without Ethernet headers can't be converted",
+               capture on an Ethernet interface",
     },
 ];
 

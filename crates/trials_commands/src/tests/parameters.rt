@@ -1,12 +1,14 @@
 //! Parameter files that are refused, and those that a draft keeps.
 use super::made::{Broken, NO_RECORD, Refused, one_request};
 use rasta_pcap::devices::Pieces;
-use seatmelon_commands::{Draft, params_in, status, survey_of, whole_of, with_params};
+use seatmelon_commands::{
+    Draft, judge_certificate, of_folder, params_in, status, survey_of, whole_of, with_params,
+};
 use std::alloc::Global;
 use std::process::Abort;
 
 // Parameter files, and what is said of them.
-const REFUSED_PARAMETERS: [Refused; 10] = [
+const REFUSED_PARAMETERS: [Refused; 13] = [
     Refused {
         file: b"",
         text: "p: client_id is missing; it must be a whole number from 0 to 4294967295 (51 MissingKey)",
@@ -54,7 +56,70 @@ const REFUSED_PARAMETERS: [Refused; 10] = [
     Refused {
         file: NO_RECORD,
         text: "p: line 1: this is no TOML document: invalid UTF-8 (50 Toml)\n\
-               this looks like a capture: are CAPTURE and PARAMS swapped?",
+               this looks like a capture, where a parameter file is wanted: CAPTURE stands first, then PARAMS",
+    },
+    Refused {
+        file: b"client_id = 96\nserver_id = 97\ncode_length = 0\ncheck_length = 0\nn_sendmax = 20\nt_max = 1800\n\
+            slack = 0\n[[channel]]\nclient = \"10.0.0.1:5000\"\nserver = \"10.0.0.2:5000\"\nlast_record = 7\n",
+        text: "p: line 11: last_record stands in a table; it must stand before the first one (52 BadValue)",
+    },
+    Refused {
+        file: b"client_id = 96\nserver_id = 97\ncode_length = 0\ncheck_length = 0\nn_sendmax = 20\nt_max = 1800\n\
+            slack = 0\n[quiet.client]\nnext_sn = 5\nclock = 5\n[quiet.server]\nnext_sn = 5\nclock = 5\n\
+            first_record = 3\n[[channel]]\nclient = \"10.0.0.1:5000\"\nserver = \"10.0.0.2:5000\"\n",
+        text: "p: line 14: first_record stands in a table; it must stand before the first one (52 BadValue)",
+    },
+    Refused {
+        file: b"start_words = \"00\"\nclient_id = 96\nserver_id = 97\ncode_length = 0\ncheck_length = 0\n\
+            n_sendmax = 20\nt_max = 1800\nslack = 0\n\
+            [[channel]]\nclient = \"10.0.0.1:5000\"\nserver = \"10.0.0.2:5000\"\n",
+        text: "p: line 1: a parameter file has no key start_words; did you mean md4_start? (52 BadValue)",
+    },
+];
+
+// The same of files that a folder holds.
+const REFUSED_IN_FOLDERS: [Refused; 3] = [
+    Refused {
+        file: b"[package]\nname = \"watch\"\n",
+        text: "p: client_id is missing; it must be a whole number from 0 to 4294967295 (51 MissingKey)\n\
+               line 1: a parameter file has no key package\n\
+               this doesn't look like a parameter file; to leave it out, name the others in place of the folder, \
+               or move it, or rename it so that its name doesn't end in .toml",
+    },
+    Refused {
+        file: b"[toolchain]\nchannel = \"stable\"\n",
+        text: "p: client_id is missing; it must be a whole number from 0 to 4294967295 (51 MissingKey)\n\
+               line 1: a parameter file has no key toolchain\n\
+               this doesn't look like a parameter file; to leave it out, name the others in place of the folder, \
+               or move it, or rename it so that its name doesn't end in .toml",
+    },
+    Refused {
+        file: b"client_id = 96\nserver_id = 96\n",
+        text: "p: line 2: server_id must be a whole number from 0 to 4294967295, and not client_id (52 BadValue)",
+    },
+];
+
+// Texts in place of a certificate, and what is said of them; nothing of those that are judged with the capture.
+const NO_CERTIFICATES: [Refused; 5] = [
+    Refused {
+        file: PARAMETERS,
+        text: "2 p: this looks like a parameter file, where a certificate is wanted: audit takes several parameter files",
+    },
+    Refused {
+        file: b"client_id = 96\nserver_id 97\nt_max = 5\n# the line at the wharf: \xc3\xa4\n",
+        text: "2 p: this looks like a parameter file, where a certificate is wanted: audit takes several parameter files",
+    },
+    Refused {
+        file: NO_RECORD,
+        text: "2 p: this looks like a capture, where a certificate is wanted",
+    },
+    Refused {
+        file: b"rasta-certificate 1\nclient\nmake 0 1000 open\nserver\nend\n",
+        text: "",
+    },
+    Refused {
+        file: b"",
+        text: "",
     },
 ];
 
@@ -70,6 +135,48 @@ fn refused_parameters(rt: HostRuntime) {
     for refused in &REFUSED_PARAMETERS {
         assert_eq!(rt;
             is_refused_so(rt.alloc(), refused),
+            Some(true),
+            "{}",
+            refused.text
+        );
+    }
+}
+
+// Whether these parameters, which a folder holds, are refused so.
+fn is_refused_in_folder(alloc: Global, refused: &Refused) -> Option<bool> {
+    let failure = of_folder(params_in(alloc, "p", refused.file).err()?);
+    let text = failure.to_string(alloc).ok()?;
+    Some(text.as_str() == refused.text && status(&failure) == 2)
+}
+
+#[test]
+fn refused_files_of_folders(rt: HostRuntime) {
+    for refused in &REFUSED_IN_FOLDERS {
+        assert_eq!(rt;
+            is_refused_in_folder(rt.alloc(), refused),
+            Some(true),
+            "{}",
+            refused.text
+        );
+    }
+}
+
+// Whether this is said of a text in place of a certificate.
+fn is_no_certificate(alloc: Global, refused: &Refused) -> Option<bool> {
+    match judge_certificate(alloc, "p", refused.file) {
+        Ok(()) => Some(refused.text.is_empty()),
+        Err(failure) => {
+            let text = format!(in alloc; "{} {failure}", status(&failure)).ok()?;
+            Some(text.as_str() == refused.text)
+        }
+    }
+}
+
+#[test]
+fn files_in_place_of_a_certificate(rt: HostRuntime) {
+    for refused in &NO_CERTIFICATES {
+        assert_eq!(rt;
+            is_no_certificate(rt.alloc(), refused),
             Some(true),
             "{}",
             refused.text

@@ -1,5 +1,5 @@
 //! What the command line asks for.
-use seatmelon_commands::{After, Drafting, Explaining, Showing};
+use seatmelon_commands::{After, Drafting, Explaining, Showing, SurveyForm, Surveying};
 use seatmelon_explain::{Extent, Form};
 use seatmelon_many::{Auditing, DraftingAll};
 use seatmelon_words::{Request, parse};
@@ -78,10 +78,19 @@ fn drafting_all_text(alloc: Global, drafting: DraftingAll<'_>) -> Option<String>
     format!(in alloc; "draft all of {capture} into {folder}").ok()
 }
 
+fn surveying_text(alloc: Global, surveying: Surveying<'_>) -> Option<String> {
+    let Surveying { capture, form } = surveying;
+    let form = match form {
+        SurveyForm::Text => "Text",
+        SurveyForm::Json => "Json",
+    };
+    format!(in alloc; "survey {capture} {form}").ok()
+}
+
 // The request as a text, or what is wrong with the words.
 fn request_text(alloc: Global, words: &[String]) -> Option<String> {
     match parse(alloc, words) {
-        Ok(Request::Survey { capture }) => format!(in alloc; "survey {capture}").ok(),
+        Ok(Request::Survey(surveying)) => surveying_text(alloc, surveying),
         Ok(Request::Draft(drafting)) => drafting_text(alloc, &drafting),
         Ok(Request::DraftAll(drafting)) => drafting_all_text(alloc, drafting),
         Ok(Request::Audit(auditing)) => auditing_text(alloc, &auditing),
@@ -104,11 +113,13 @@ fn is_asked(alloc: Global, row: &str) -> Option<bool> {
 
 // Words, and what they ask for.
 const REQUESTS: &str = "\
-survey c | survey c
-survey /dev/stdin | survey /dev/stdin
-survey -- -c | survey -c
-survey -- --help | survey --help
-survey survey | survey survey
+survey c | survey c Text
+survey /dev/stdin | survey /dev/stdin Text
+survey -- -c | survey -c Text
+survey -- --help | survey --help Text
+survey survey | survey survey Text
+survey c --json | survey c Json
+survey --json -- -c | survey -c Json
 draft c 1 | draft 1 of c
 draft c 0 | draft 0 of c
 draft c 018446744073709551615 | draft 18446744073709551615 of c
@@ -206,7 +217,8 @@ explain c p --without | InvalidValue
 explain c p --json 1 2 | UnknownArgument
 explain c p --json=1 | TooManyValues
 explain c p --json --json | ArgumentConflict
-survey c --json | UnknownArgument
+survey c --json --json | ArgumentConflict
+survey c --summary | UnknownArgument
 convert c | convert c
 convert - | convert -
 convert | MissingRequiredArgument

@@ -24,8 +24,7 @@ refused by 12 LinkType:
 may be the cause:
   the capture was made on the interface 'any'
 look next at:
-  an Ethernet interface, on which to capture again: a cooked capture has no Ethernet headers,
-  and can't be converted without making addresses up
+  the capture of Ethernet frames that this command makes of it: seatmelon convert CAPTURE > OUT
 == data plain: - | 20=200 |  | plain |  | Frames of a link type without a name.
 refused by 12 LinkType:
   the frames are not Ethernet frames but of link type 200
@@ -33,8 +32,7 @@ refused by 12 LinkType:
 may be the cause:
   the capture was made on another kind of interface
 look next at:
-  an Ethernet interface, not 'any', on which to capture again: headers that weren't captured can't be
-  converted without making them up
+  an Ethernet interface, on which to capture again
 == data plain: - | 23=64 |  | plain |  | Ethernet frames, of which the link type says more.
 refused by 12 LinkType:
   the field of the link type says more of the frames than that they are Ethernet
@@ -61,6 +59,11 @@ may be the cause:
   the file is not whole
 look next at:
   last_record in the parameters, which can end the window before it
+up to there:
+  the 1 packet before it is explained by itself:
+    client to server: 0 of 0 messages surely taken
+    server to client: 0 of 0 messages surely taken
+    with last_record = 1 in the parameters, that is told whole
 == data plain: 0%50 | 16=50 17=0 18=0 19=0 |  | plain |  | A datagram that wasn't captured whole.
 refused by 15 CutPacket:
   a datagram between the recorded hosts was not captured whole

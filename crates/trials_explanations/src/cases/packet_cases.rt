@@ -157,6 +157,11 @@ may be the cause:
   or, at the first packet, wrong start words
 look next at:
   how this packet differs from its first copy, and what --without with its record says
+up to there:
+  the 3 packets before it are explained by themselves:
+    client to server: 0 of 0 messages surely taken
+    server to client: 0 of 0 messages surely taken
+    with last_record = 3 in the parameters, that is told whole
 == data plain: 0 | 94=98 |  | plain |  | The ids of other ends.
 refused by 26 Ids:
   sender or receiver isn't the recorded one
@@ -207,6 +212,11 @@ may be the cause:
   a bit flipped on the line; a stranger; or an end that used a number twice
 look next at:
   how this packet differs from its first copy, and what --without with its record says
+up to there:
+  the 6 packets before it are explained by themselves:
+    client to server: 2 of 2 messages surely taken
+    server to client: 0 of 0 messages surely taken
+    with last_record = 6 in the parameters, that is told whole
 == data plain: 0 1 3 2 |  |  | plain |  | The missing packet crosses later.
 refused by 28 NumberGap:
   this redundancy number has not crossed before, and isn't the next
@@ -229,17 +239,22 @@ what is wrong with it:
   redundancy number found: 9
   SN due: 101
   SN found: 102
-  the end's last number before it: 7, SN 100, first in record 1, 1970-01-01 00:00:00.000000 UTC, channel 1
+  the end's last number before it: 7, SN 100, first copy in record 1, 1970-01-01 00:00:00.000000 UTC, channel 1
   8 crosses later: record 4, 1970-01-01 00:00:00.000000 UTC, channel 1
   the capture has the opening of the connection
 
 may be the cause:
+  on channel 2 no packet was captured: one of its addresses in the parameters is wrong, or its tap is missing
   the packet that was due was overtaken before it reached the tap
 look next at:
   the packets of this end around the missing number, with seatmelon show; if the tap may have missed
-  PDUs, what --suppose N says; up to the gap the capture can be explained with last_record, and
-  behind it from a quiet point, of which seatmelon draft CAPTURE N --after RECORD PARAMS proposes
-  some
+  PDUs, what --suppose N says; behind the gap the capture can be explained from a quiet point, of
+  which seatmelon draft CAPTURE N --after RECORD PARAMS proposes some
+up to there:
+  the 2 packets before it are explained by themselves:
+    client to server: 0 of 0 messages surely taken
+    server to client: 0 of 0 messages surely taken
+    with last_record = 2 in the parameters, that is told whole
 == data plain: 0 1 3 |  |  | plain |  | A packet is missing.
 refused by 28 NumberGap:
   this redundancy number has not crossed before, and isn't the next
@@ -262,18 +277,23 @@ what is wrong with it:
   redundancy number found: 9
   SN due: 101
   SN found: 102
-  the end's last number before it: 7, SN 100, first in record 1, 1970-01-01 00:00:00.000000 UTC, channel 1
+  the end's last number before it: 7, SN 100, first copy in record 1, 1970-01-01 00:00:00.000000 UTC, channel 1
   8 doesn't cross later in the window
   both numbers skip 1, as where so many whole PDUs never reached the tap or were cut from the file
   the capture has the opening of the connection
 
 may be the cause:
+  on channel 2 no packet was captured: one of its addresses in the parameters is wrong, or its tap is missing
   the tap missed whole PDUs, or they were cut from the file
 look next at:
   the packets of this end around the missing number, with seatmelon show; if the tap may have missed
-  PDUs, what --suppose N says; up to the gap the capture can be explained with last_record, and
-  behind it from a quiet point, of which seatmelon draft CAPTURE N --after RECORD PARAMS proposes
-  some
+  PDUs, what --suppose N says; behind the gap the capture can be explained from a quiet point, of
+  which seatmelon draft CAPTURE N --after RECORD PARAMS proposes some
+up to there:
+  the 2 packets before it are explained by themselves:
+    client to server: 0 of 0 messages surely taken
+    server to client: 0 of 0 messages surely taken
+    with last_record = 2 in the parameters, that is told whole
 == data plain: 0 1 2 3 |  | 3 | plain |  | The same where the heartbeat of a whole capture is left out.
 refused by 28 NumberGap without record 3:
   this redundancy number has not crossed before, and isn't the next
@@ -296,18 +316,23 @@ what is wrong with it:
   redundancy number found: 9
   SN due: 101
   SN found: 102
-  the end's last number before it: 7, SN 100, first in record 1, 1970-01-01 00:00:00.000000 UTC, channel 1
+  the end's last number before it: 7, SN 100, first copy in record 1, 1970-01-01 00:00:00.000000 UTC, channel 1
   8 doesn't cross later in the window
   both numbers skip 1, as where so many whole PDUs never reached the tap or were cut from the file
   the capture has the opening of the connection
 
 may be the cause:
+  on channel 2 no packet was captured: one of its addresses in the parameters is wrong, or its tap is missing
   the tap missed whole PDUs, or they were cut from the file
 look next at:
   the packets of this end around the missing number, with seatmelon show; if the tap may have missed
-  PDUs, what --suppose N says; up to the gap the capture can be explained with last_record, and
-  behind it from a quiet point, of which seatmelon draft CAPTURE N --after RECORD PARAMS proposes
-  some
+  PDUs, what --suppose N says; behind the gap the capture can be explained from a quiet point, of
+  which seatmelon draft CAPTURE N --after RECORD PARAMS proposes some
+up to there:
+  the 2 packets before it are explained by themselves:
+    client to server: 0 of 0 messages surely taken
+    server to client: 0 of 0 messages surely taken
+    with last_record = 3 in the parameters, that is told whole
 == data plain: 2 |  |  | plain |  | A heartbeat, and no opening before it.
 refused by 60 NotFound:
   no two ends that keep the rules send packets that begin with those up to this one
@@ -319,10 +344,11 @@ the client's PDU in record 1, 1970-01-01 00:00:00.000000 UTC, channel 1
   CS: 500
   TS: 1010
   CTS: 9000
-the rule that refuses it, found by a walk beside the verdict and no part of it:
+the rule that it breaks, found by a second pass, on which the verdict doesn't rest:
   CS 500 confirms a PDU of the server, and none crosses
 
 may be the cause:
+  on channel 2 no packet was captured: one of its addresses in the parameters is wrong, or its tap is missing
   the capture begins in the middle of the connection, and the parameters record no quiet point;
   or the opening is there, but outside the window or on a channel that isn't recorded
 look next at:
@@ -339,10 +365,11 @@ the client's PDU in record 2, 1970-01-01 00:00:00.000000 UTC, channel 1
   CS: 500
   TS: 1010
   CTS: 9000
-the rule that refuses it, found by a walk beside the verdict and no part of it:
+the rule that it breaks, found by a second pass, on which the verdict doesn't rest:
   CS 500 confirms a PDU of the server, and none crosses
 
 may be the cause:
+  on channel 2 no packet was captured: one of its addresses in the parameters is wrong, or its tap is missing
   an end broke the rules; a stranger; a wrong parameter or quiet point; or an honest end
   repeated a retransmission request, both opened as client, or the connection was opened twice
 look next at:

@@ -1,7 +1,7 @@
 //! Captures, and what their texts say of the rule behind a 60, or of a payload.
 /// What the text says after this line.
 pub const RULE: &str =
-    "the rule that refuses it, found by a walk beside the verdict and no part of it:\n";
+    "the rule that it breaks, found by a second pass, on which the verdict doesn't rest:\n";
 
 /// What the text says after this line.
 pub const TROUBLE: &str = "what is wrong with it:\n";

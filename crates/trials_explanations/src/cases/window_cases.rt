@@ -52,6 +52,7 @@ explained: two ends that keep the rules can have sent these 5 packets, the packe
   packets of the connection: 5
     on channel 1, 10.0.0.1:5000 - 10.0.0.2:5000: from the client 3, from the server 2
     on channel 2, 10.0.1.1:5001 - 10.0.1.2:5001: no packet
+  end of the connection: none, it is still open at the end of the window
   packets of the recorded channels before the window: 2, behind it: 2
   records passed over: 0
 -- later
@@ -60,6 +61,7 @@ explained: two ends that keep the rules can have sent these 5 packets, the packe
 -- json
 "records_read":9,"window":{"first_record":3,"last_record":7,"packets_before":2,"packets_behind":2},"packets":5,
 "channels":[{"channel":1,"from_client":3,"from_server":2},{"channel":2,"from_client":0,"from_server":0}],
+"begins_with_opening":true,"disconnection":null,"another_opening":null,
 "records_passed_over":0,"passed_over":{"left_out":0,"not_udp":0,"tagged":0,"elsewhere":0,"unreadable":0},
 -- later json
 "What is judged begins before the opening of the connection, and no copy of an earlier packet comes after it."],
@@ -75,6 +77,7 @@ explained without record 2: two ends that keep the rules can have sent these 5 p
   packets of the connection: 5
     on channel 1, 10.0.0.1:5000 - 10.0.0.2:5000: from the client 3, from the server 2
     on channel 2, 10.0.1.1:5001 - 10.0.1.2:5001: no packet
+  end of the connection: none, it is still open at the end of the window
   packets of the recorded channels before the window: 1, behind it: 2
   records passed over: 1
     left out: 1
@@ -97,6 +100,7 @@ explained: two ends that keep the rules can have sent these 4 packets, the packe
   packets of the connection: 4
     on channel 1, 10.0.0.1:5000 - 10.0.0.2:5000: from the client 3, from the server 1
     on channel 2, 10.0.1.1:5001 - 10.0.1.2:5001: no packet
+  end of the connection: none, it is still open at the end of the window
   packets of the recorded channels before the window: 0, behind it: 1
   records passed over: 0
 -- later
@@ -116,6 +120,7 @@ explained: two ends that keep the rules can have sent these 2 packets, the packe
   packets of the connection: 2
     on channel 1, 10.0.0.1:5000 - 10.0.0.2:5000: from the client 1, from the server 1
     on channel 2, 10.0.1.1:5001 - 10.0.1.2:5001: no packet
+  end of the connection: none, it is still open at the end of the window
   packets of the recorded channels before the window: 3, behind it: 0
   records passed over: 1
     other addresses or ports: 1
@@ -180,6 +185,7 @@ record 4
   packets of the connection: 2
     on channel 1, 10.0.0.1:5000 - 10.0.0.2:5000: from the client 1, from the server 1
     on channel 2, 10.0.1.1:5001 - 10.0.1.2:5001: no packet
+  end of the connection: none, it is still open at the end of the window
   packets of the recorded channels before the window: 1, behind it: 0
   records passed over: 0
 -- later
@@ -200,6 +206,7 @@ record 4, 1970-01-01 00:00:00.000000 UTC, channel 1, from the client
   packets of the connection: 3
     on channel 1, 10.0.0.1:5000 - 10.0.0.2:5000: from the client 2, from the server 1
     on channel 2, 10.0.1.1:5001 - 10.0.1.2:5001: no packet
+  end of the connection: none, it is still open at the end of the window
   packets of the recorded channels before the window: 1, behind it: 1
   records passed over: 0
 -- later
@@ -207,7 +214,7 @@ record 4, 1970-01-01 00:00:00.000000 UTC, channel 1, from the client
 -- json
 "records_read":5,"window":{"first_record":2,"last_record":4,"packets_before":1,"packets_behind":1},"packets":3,
 -- later json
-"trouble":{"number_due":8,"number_found":9,"sn_due":101,"sn_found":102,"numbers_skipped":1,"sns_skipped":1,
+"trouble":{"number_due":8,"number_found":9,"sn_due":101,"sn_found":102,"numbers_skipped":1,"numbers_back":null,"sns_skipped":1,
 "last_before":{"packet":{"record":2,"time":"1970-01-01 00:00:00.000000 UTC","channel":1},"redundancy_number":7,"sn":100},
 "crosses_later":null,"has_opening":true},
 == data plain: 0 1 2 |  |  | narrow |  | The ends offer another N_sendmax than the parameters have.

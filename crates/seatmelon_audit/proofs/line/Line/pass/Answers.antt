@@ -13,7 +13,7 @@ returns-in-Refused-clause-stands c =
     let kept = c.show.ensures.kept in
     passes_shown c.args.self.now c.show.new.self (c.args.record.now.number, c.args.record.now.bytes.now) c.args.time
     (λ (reading : c.args.self.now.standing ≡ Reading). let is = c.in-Refused.is in cc) c.requires.inside c.show.ensures.standing
-    (record { params = kept.0; builder = kept.1; packets = kept.2; shown = c.show.ensures.shown })
+    (record { params = kept.0; builder = kept.1; shown = c.show.ensures.shown })
 
 pub returns-in-OutOfMemory-clause-stands : goal.returns-in-OutOfMemory-clause-stands
 returns-in-OutOfMemory-clause-stands c records q is next timed h = short_stands _ c.args.self.now c.in-OutOfMemory.is

@@ -17,5 +17,5 @@ pub returns-in-None-clause-noted : goal.returns-in-None-clause-noted
 returns-in-None-clause-noted c records r before is next timed crossed =
     let numbered = ap (λ (n : Numbered). n.0) is in
     let none = none_seen _ (sym crossed ∙ c.in-None.is) in
-    c.pass.ensures.noted c.args.params.now c.args.without.now records r before numbered (sym numbered ∙ next)
-    (c.time_told-time.ensures ∙ ap (time_told c.args.self.now.zero_is_no_time) timed) none (c.why_passed.ensures r is none)
+    c.pass.ensures.noted c.args.without.now records r before numbered (sym numbered ∙ next)
+    (c.time_told-time.ensures ∙ ap (time_told c.args.self.now.zero_is_no_time) timed) none (c.why_passed-why.ensures r is none)

@@ -1,0 +1,4 @@
+pub mod Copied
+pub mod Files
+pub mod Records
+pub mod Ways

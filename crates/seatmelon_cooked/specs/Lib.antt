@@ -1,0 +1,4 @@
+pub mod Ethernet
+pub mod Forms
+pub mod Frames
+pub mod Steps
