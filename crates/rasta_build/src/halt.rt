@@ -6,6 +6,7 @@ ghost use Rattle.rasta_build.specs.Stopping.{IsHaltAt};
 use crate::obstacles::{Obstacle, Stop};
 use crate::rules::{Confirmation, Rule};
 use crate::stuck::Stuck;
+use rasta_end::Phase;
 use rasta_pdu::{Fault, Side};
 use std::marker::Model;
 
@@ -27,8 +28,13 @@ impl Model for Halt {
 }
 
 impl Halt {
-    /// By the fault of a make at this clock, where this sets the deadline of the end.
-    pub(crate) fn of_make(fault: Fault, clock: u64, confirmed: Option<Confirmation>) -> Halt
+    /// By the fault of a make in this phase and at this clock, where this sets the deadline of the end.
+    pub(crate) fn of_make(
+        fault: Fault,
+        phase: Phase,
+        clock: u64,
+        confirmed: Option<Confirmation>,
+    ) -> Halt
         ensures { result ≡ stuck_by fault }
     {
         let rule = match fault.number {
@@ -37,7 +43,10 @@ impl Halt {
                 clock,
                 confirmed,
             },
-            number => Rule::MakeRefused { fault: number },
+            number => Rule::MakeRefused {
+                fault: number,
+                phase,
+            },
         };
         Halt::of(Stuck::from(fault), rule)
     }

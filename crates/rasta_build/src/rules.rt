@@ -1,4 +1,5 @@
 //! The rules by which no end makes a PDU.
+use rasta_end::Phase;
 use rasta_pdu::Kind;
 
 /// What sets the deadline of an end: the PDU of the peer that it accepted last, of those that are time-relevant.
@@ -49,9 +50,10 @@ pub enum Rule {
     NothingToResend,
     /// The clock that its time stamp tells is 2^64 or more.
     ClockTooLarge,
-    /// The rule of making refuses it, by this fault.
+    /// The rule of making refuses it, by this fault, at an end in this phase.
     MakeRefused {
         fault: u8,
+        phase: Phase,
     },
     /// It is made at this clock, past the deadline or, as a timeout, too early for it, by this fault. Nothing is
     /// confirmed where the deadline is that of the quiet point.

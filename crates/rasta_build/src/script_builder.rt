@@ -518,7 +518,7 @@ impl<'a> ScriptBuilder<'a> {
             Err(fault) if fault.number == Fault::TOO_EARLY_TIMEOUT => {
                 self.make_later(params, place, pdu, clock, why)
             }
-            Err(fault) => Err(Halt::of_make(fault, clock, self.confirmed)),
+            Err(fault) => Err(Halt::of_make(fault, self.end.phase(), clock, self.confirmed)),
         }
     }
 
@@ -544,7 +544,7 @@ impl<'a> ScriptBuilder<'a> {
         };
         match self.end.make(pdu, clock, why) {
             Ok(()) => self.note_make(place, clock, why),
-            Err(fault) => Err(Halt::of_make(fault, clock, self.confirmed)),
+            Err(fault) => Err(Halt::of_make(fault, self.end.phase(), clock, self.confirmed)),
         }
     }
 

@@ -11,7 +11,7 @@ use Rattle.seatmelon_middle.specs.Course.{crossed_course, is_sign_of_life, with_
 use Rattle.seatmelon_middle.specs.declared.course.Course.{Course}
 use Rattle.seatmelon_middle.specs.declared.course.Disconnection.{Disconnection}
 use Rattle.seatmelon_reading.specs.Silences.{IsLongest, IsSearch, silences_of}
-use Rattle.seatmelon_reading.specs.Tapes.{NumberedPacket, taped_in}
+use Rattle.seatmelon_reading.specs.Tapes.{taped_in}
 use Rattle.seatmelon_reading.specs.declared.notes.LastRecord.{LastRecord}
 use Rattle.seatmelon_reading.specs.declared.notes.Sighting.{Sighting}
 use Rattle.seatmelon_reading.specs.declared.reading.Reading.{Reading}

@@ -113,6 +113,7 @@ fn sn_due(params: &Params, list: &SpanList<'_>, met: &Obstacle) -> Option<u32> {
     match met.rule {
         Rule::MakeRefused {
             fault: Fault::SEQUENCE_NUMBER,
+            ..
         } => sn_at(params, list, met.side, met.place),
         _ => None,
     }
@@ -122,7 +123,7 @@ fn sn_due(params: &Params, list: &SpanList<'_>, met: &Obstacle) -> Option<u32> {
 fn found_in(rule: Rule, pdu: &Pdu<'_>) -> Option<(&'static str, u32)> {
     match rule {
         Rule::Deadline { .. } => Some(("TS", pdu.ts())),
-        Rule::MakeRefused { fault } => match fault {
+        Rule::MakeRefused { fault, .. } => match fault {
             Fault::SEQUENCE_NUMBER => Some(("SN", pdu.sn())),
             Fault::CONFIRMED_NUMBER => Some(("CS", pdu.cs())),
             Fault::CONFIRMED_TIME => Some(("CTS", pdu.cts())),

@@ -13,7 +13,7 @@ use Rattle.rasta_check.specs.Capture.Building.{crossed_in}
 use Rattle.rasta_check.specs.Capture.Crossing.{AreSentLists, Crossing, IsCrossing}
 use Rattle.rasta_check.specs.Capture.Reading.{crossing_of}
 use Rattle.rasta_check.specs.Middle.Seen.{IsSeen}
-use Rattle.rasta_check.specs.Verdict.Report.{BothFit, IsScriptVerdict, both_fit, report_of}
+use Rattle.rasta_check.specs.Verdict.Report.{BothFit, IsScriptVerdict, both_fit}
 use Rattle.rasta_check.specs.Verdict.Report as reports
 use Rattle.rasta_check.proofs.Script.Fits.{one_answer}
 use Rattle.rasta_verdict.specs.declared.verdict.Explanation.{Explanation}

@@ -4,7 +4,7 @@ use Rattle.std.proofs.lemmas.Bool.Decides.{nat_tests}
 use Rattle.std.proofs.lemmas.List.{length-map, take-map, take_all}
 use Rattle.rasta_pcap.specs.declared.fault.Fault.{Fault}
 use Rattle.rasta_pcap.specs.declared.time.FractionUnit.{FractionUnit}
-use Rattle.rasta_pcap.specs.Capture.{FileCursor, Numbered, cursor_after, max_records, next, opening, reading, reading_of, read_step, with_record}
+use Rattle.rasta_pcap.specs.Capture.{FileCursor, Numbered, cursor_after, max_records, next, opening, reading, reading_of, with_record}
 use Rattle.rasta_pcap.specs.Capture as captures
 use Rattle.rasta_pcap.specs.Captured.{captured_from, captured_in, numbered}
 use Rattle.rasta_pcap.specs.Times.{unit_of}

@@ -5,7 +5,7 @@ use Rattle.rasta_pcap.specs.declared.fault.Fault.{Fault}
 use Rattle.rasta_pcap.specs.declared.pcap.Endianness.{Endianness}
 use Rattle.rasta_pcap.specs.declared.time.CaptureTime.{CaptureTime}
 use Rattle.rasta_pcap.specs.declared.time.FractionUnit.{FractionUnit}
-use Rattle.rasta_pcap.specs.Capture.{FileCursor, Numbered, cursor_after, cursor_at, max_records, next, opening, reading, reading_of}
+use Rattle.rasta_pcap.specs.Capture.{FileCursor, Numbered, cursor_at, max_records, next, opening, reading, reading_of}
 use Rattle.rasta_pcap.specs.Capture as captures
 use Rattle.rasta_pcap.specs.Captured.{Captured, captured_at, captured_from, captured_in}
 use Rattle.rasta_pcap.specs.Times.{unit_of}

@@ -185,14 +185,8 @@ fn supposed(
     let fillings = ways.fillings(first.into_filling())?;
     let client = common(alloc, &fillings, Side::Client)?;
     let server = common(alloc, &fillings, Side::Server)?;
-    let Found {
-        gaps,
-        reach,
-        stop,
-        ..
-    } = found;
     Ok(Supposition {
-        gaps,
+        gaps: found.gaps,
         fillings,
         client: Messages {
             sent: client_sent,
@@ -202,8 +196,8 @@ fn supposed(
             sent: server_sent,
             taken: server,
         },
-        reach,
-        stop,
+        reach: found.reach,
+        stop: found.stop,
     })
 }
 

@@ -4,11 +4,9 @@ use Rattle.std.proofs.lemmas.Bool.{and_from, and_parts, eq-eqb, eqb-true, trueâ‰
 use Rattle.std.proofs.Math.Nat.{max_comm, min_comm}
 use Rattle.std.specs.Option.{option_map_or}
 use Rattle.seatmelon_packets.specs.declared.packet.Packet.{Packet}
-use Rattle.seatmelon_connections.specs.declared.channel.End.{End}
 use Rattle.seatmelon_connections.specs.declared.channel.End.TheVariants.{First, Second}
 use Rattle.seatmelon_connections.specs.declared.connection.Connection.{Connection}
-use Rattle.seatmelon_connections.specs.Comparing.{can_have, can_have_from, sender_in}
-use Rattle.seatmelon_survey.specs.declared.places.Ends.{Ends}
+use Rattle.seatmelon_connections.specs.Comparing.{can_have, can_have_from}
 use Rattle.seatmelon_survey.specs.Belonging.{ends_of, is_between, last_between, last_for, last_place, or_first}
 use Rattle.seatmelon_survey.specs.Places.{same_ends}
 use Rattle.seatmelon_survey.proofs.Placed.{or_first-alone, or_first-cond}

@@ -5,6 +5,7 @@ ghost use Rattle.rasta_pcap.specs.Fault.{write_failed};
 use crate::fault_words::words_of;
 use crate::page::write_place;
 use rasta_build::Rule;
+use rasta_end::Phase;
 use rasta_pcap::{Fault, Side, Sink};
 use rasta_pdu::Pdu;
 use seatmelon_account::{BrokenRule, Crossed, Deadline};
@@ -45,6 +46,29 @@ fn confirming(rule: Rule, cs: u32, peer: Side) -> [Part<'static>; 5] {
     parts!["CS ", cs, middle, end, after]
 }
 
+// How an end stands in a phase, and what it may send, in place of a PDU that it may not.
+fn standing_in(phase: Phase, side: Side) -> &'static str {
+    match (phase, side) {
+        (Phase::Closed, _) => " is closed: only a connection request may come first",
+        (Phase::Down, _) => " waits for a connection request, and may send nothing before it",
+        (Phase::Start, Side::Client) => {
+            " is opening: before it takes the connection response it may send only a disconnection request"
+        }
+        (Phase::Start, Side::Server) => {
+            " is opening: it may send one connection response, and else only a disconnection request"
+        }
+        (Phase::Up, _) => {
+            " is connected: it may send what it owes, or else data, a heartbeat or a disconnection request"
+        }
+        (Phase::RetrReq, _) => {
+            " asks for a retransmission: it may send what it owes, or else data, a heartbeat or a disconnection request"
+        }
+        (Phase::RetrRun, _) => {
+            " takes a retransmission: it may send what it owes, or else data, a heartbeat or a disconnection request"
+        }
+    }
+}
+
 // What a rule says of a PDU and of what its peer sent.
 fn sentence_on(rule: Rule, pdu: &Pdu<'_>, peer: Side) -> [Part<'static>; 5] {
     let (before, name, between, after) = match rule {
@@ -73,7 +97,16 @@ fn sentence_on(rule: Rule, pdu: &Pdu<'_>, peer: Side) -> [Part<'static>; 5] {
             " wants a clock of 2^64 or more",
             "",
         ),
-        Rule::MakeRefused { fault } | Rule::Deadline { fault, .. } => {
+        Rule::MakeRefused {
+            fault: Fault::NOT_ALLOWED,
+            phase,
+        } => (
+            "the ",
+            Part::End(peer.other()),
+            standing_in(phase, peer.other()),
+            "",
+        ),
+        Rule::MakeRefused { fault, .. } | Rule::Deadline { fault, .. } => {
             (words_of(fault).meaning, NONE, "", "")
         }
         _ => return confirming(rule, pdu.cs(), peer),

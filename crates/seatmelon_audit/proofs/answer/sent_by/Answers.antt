@@ -3,7 +3,6 @@ use Rattle.std.specs.Option.{option_map, option_or}
 use Rattle.rasta_check.proofs.Lists.{none_within}
 use Rattle.rasta_check.specs.Capture.Lists.{copy_of}
 use Rattle.seatmelon_middle.specs.Course.{disconnection_at}
-use Rattle.seatmelon_middle.specs.declared.course.Disconnection.{Disconnection}
 use Rattle.seatmelon_audit.proofs.Counting.{first_all, first_more, none_left, sent_left}
 use Rattle.seatmelon_audit.proofs.answer.sent_by.Goals as goal
 use Rattle.seatmelon_audit.proofs.answer.sent_by.Goals.{in-Some, in_default}

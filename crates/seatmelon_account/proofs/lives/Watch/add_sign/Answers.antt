@@ -1,7 +1,5 @@
-use Rattle.std.proofs.Common.{append-nil, List, subst, sym}
+use Rattle.std.proofs.Common.{subst, sym}
 use Rattle.rasta_pcap.specs.declared.fault.Side.{Side}
-use Rattle.seatmelon_reading.specs.Silences.{IsSearch}
-use Rattle.seatmelon_reading.specs.declared.notes.Sighting.{Sighting}
 use Rattle.seatmelon_account.specs.Lives.{IsWatch, lives_with_sign}
 use Rattle.seatmelon_account.proofs.Signs.{client_signed, server_signed, watch}
 use Rattle.seatmelon_account.proofs.lives.Watch.add_sign.Goals as goal

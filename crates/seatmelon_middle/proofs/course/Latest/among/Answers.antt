@@ -1,4 +1,4 @@
-use Rattle.std.proofs.Common.{◌∙◌, arith, sym}
+use Rattle.std.proofs.Common.{arith, sym}
 use Rattle.rasta_check.specs.Capture.Lists.{copy_of}
 use Rattle.seatmelon_middle.proofs.Courses.{latest_there}
 use Rattle.seatmelon_middle.proofs.course.Latest.among.Goals as goal
