@@ -1,5 +1,5 @@
 //! What the program says of its version.
-use seatmelon_telling::PROGRAM;
+use seatmelon_text::PROGRAM;
 use std::path::PathBuf;
 use std::rt::Files;
 use std::{env, fs, io};

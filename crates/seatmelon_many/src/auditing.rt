@@ -14,7 +14,8 @@ use seatmelon_commands::{
     kind_of_start, len_at, output_to, unread,
 };
 use seatmelon_pcapng::{Capture, Format};
-use seatmelon_tally::{status_of, write_audit, write_audit_json};
+use seatmelon_reading::{Summed, drain};
+use seatmelon_tally::{Inputs, status_of, write_audit, write_audit_json};
 use std::alloc::Global;
 use std::fs::File;
 use std::io;
@@ -37,6 +38,13 @@ pub struct Auditing<'a> {
     pub form: Form,
 }
 
+/// The paths of parameter files, and the SHA-256 of each, in the order of their parameters.
+#[derive(Clone, Copy)]
+pub struct Named<'a> {
+    pub names: &'a [String],
+    pub sums: &'a [[u8; 32]],
+}
+
 /// What an audit came to, and what kind of file the capture seems to be.
 #[derive(Drop)]
 pub struct Audited {
@@ -54,30 +62,45 @@ fn unaudited(alloc: Global, path: &str, fault: Fault, error: Option<io::Error>) 
     }
 }
 
-// Writes an audit of a file in this format to a device, all of it.
+// What an audit is written as, with the SHA-256 of the capture where that is told.
+#[derive(Clone, Copy)]
+enum Page {
+    Text,
+    Json { capture_sum: [u8; 32] },
+}
+
+// An audit, the format of the file, and what the audit is written as.
+#[derive(Drop)]
+struct FileAudit {
+    audit: Audit,
+    format: Format,
+    page: Page,
+}
+
+// Writes an audit to a device, all of it.
 fn write_to<W: Write + Drop>(
     alloc: Global,
-    form: Form,
-    names: &[String],
-    audit: &Audit,
-    format: Format,
+    capture: &str,
+    parameters: &Named<'_>,
+    file: &FileAudit,
     device: W,
 ) -> Result<(), Failure>
     ensures { IfErr result (λ failure. status_of failure ≡ 3) }
 {
     let mut output = output_to(alloc, device)?;
-    let written = match form {
-        Form::Text => write_audit(&mut output, names, audit, format),
-        Form::Json => write_audit_json(&mut output, names, audit, format),
+    let written = match file.page {
+        Page::Text => write_audit(&mut output, parameters.names, &file.audit, file.format),
+        Page::Json { capture_sum } => {
+            let inputs = Inputs {
+                capture,
+                capture_sum,
+                names: parameters.names,
+                sums: parameters.sums,
+            };
+            write_audit_json(&mut output, &inputs, &file.audit, file.format)
+        }
     };
     finish(alloc, STANDARD_OUTPUT, output, written)
-}
-
-// An audit, and the format of the file.
-#[derive(Drop)]
-struct FileAudit {
-    audit: Audit,
-    format: Format,
 }
 
 // Audits the connections with these parameters in what a source gives, a file in either format. The source is taken
@@ -92,18 +115,49 @@ where
     match audit(alloc, params, &mut capture) {
         Ok(audit) => {
             let format = capture.format();
-            Ok(FileAudit { audit, format })
+            let page = Page::Text;
+            Ok(FileAudit {
+                audit,
+                format,
+                page,
+            })
         }
         Err(fault) => Err(capture.fault_met(fault)),
     }
 }
 
-/// Audits the connections with these parameters, whose files have these names, in one reading of the file that a reader
-/// gives, and writes that to a device, all of it. Nothing is written before the file is at its end.
+// Audits them in the same way, and sums up the file, which is read to its end.
+fn audit_summed<S: Source>(alloc: Global, params: &[Params], source: S) -> Result<FileAudit, Fault>
+where
+    S: Drop,
+    requires { length params.now < 2 ^ 32 }
+    ensures { IfSome (S.remaining source) (λ file. IfOk result (λ a. AreAudits params.now (capture_of file) a.audit)) }
+{
+    let mut capture = Capture::open(alloc, Summed::new(source))?;
+    match audit(alloc, params, &mut capture) {
+        Ok(audit) => {
+            let format = capture.format();
+            let mut summed = capture.into_inner();
+            drain(&mut summed)?;
+            let page = Page::Json {
+                capture_sum: summed.into_digest(),
+            };
+            Ok(FileAudit {
+                audit,
+                format,
+                page,
+            })
+        }
+        Err(fault) => Err(capture.fault_met(fault)),
+    }
+}
+
+/// Audits the connections with these parameters, whose files are named, in one reading of the file that a reader gives,
+/// and writes that to a device, all of it. Nothing is written before the file is at its end.
 pub fn audit_of<D: Read + Drop, W: Write + Drop>(
     alloc: Global,
     auditing: &Auditing<'_>,
-    names: &[String],
+    named: &Named<'_>,
     params: &[Params],
     file: D,
     device: W,
@@ -113,13 +167,16 @@ pub fn audit_of<D: Read + Drop, W: Write + Drop>(
     ensures err { IfErr result (λ failure. status_of failure ≡ 3) }
 {
     let mut source = Counted::new(Watched::new(file));
-    let audited = audit_file(alloc, params, &mut source);
+    let audited = match auditing.form {
+        Form::Text => audit_file(alloc, params, &mut source),
+        Form::Json => audit_summed(alloc, params, &mut source),
+    };
     let reader = source.into_inner();
     match audited {
-        Ok(FileAudit { audit, format }) => {
-            write_to(alloc, auditing.form, names, &audit, format, device)?;
+        Ok(file) => {
+            write_to(alloc, auditing.capture, named, &file, device)?;
             Ok(Audited {
-                audit,
+                audit: file.audit,
                 kind: kind_of_start(reader.start()),
             })
         }
@@ -131,7 +188,7 @@ pub fn audit_of<D: Read + Drop, W: Write + Drop>(
 fn audit_capture<R: AllocGlobal + Clock + Eprint + Files + Input + Print>(
     rt: &R,
     auditing: &Auditing<'_>,
-    names: &[String],
+    named: &Named<'_>,
     params: &[Params],
     is_told: bool,
 ) -> Result<Audited, Failure>
@@ -141,12 +198,12 @@ fn audit_capture<R: AllocGlobal + Clock + Eprint + Files + Input + Print>(
     let (alloc, path, device) = (rt.alloc(), auditing.capture, io::writer(rt));
     if path == STANDARD_INPUT {
         let input = Progress::new(rt, rt.reader(), None, is_told);
-        return audit_of(alloc, auditing, names, params, input, device);
+        return audit_of(alloc, auditing, named, params, input, device);
     }
     match File::open(rt, path) {
         Ok(file) => {
             let file = Progress::new(rt, file, len_at(rt, path), is_told);
-            audit_of(alloc, auditing, names, params, file, device)
+            audit_of(alloc, auditing, named, params, file, device)
         }
         Err(error) => Err(unread(alloc, path, Some(error))),
     }
@@ -178,11 +235,15 @@ pub fn audit_files<R: AllocGlobal + Clock + Clone + Drop + Eprint + Files + Inpu
     ensures err { IfErr result IsOfExplaining }
 {
     let files = parameter_files(rt, auditing.parameters.as_slice())?;
-    let params = match judge(rt, &files)? {
-        Judged::All(params) => params,
+    let recorded = match judge(rt, &files)? {
+        Judged::All(recorded) => recorded,
         Judged::Refused(status) => return Ok(status),
     };
-    let audited = audit_capture(rt, auditing, files.names(), params.as_slice(), is_told)?;
+    let named = Named {
+        names: files.names(),
+        sums: recorded.sums.as_slice(),
+    };
+    let audited = audit_capture(rt, auditing, &named, recorded.params.as_slice(), is_told)?;
     advise(rt, auditing.capture, audited.kind);
     advise_on_frames(rt, auditing.capture, audited.audit.fault);
     Ok(status_of(&audited.audit))

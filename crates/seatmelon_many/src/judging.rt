@@ -1,5 +1,6 @@
 //! Parameter files, all of them read and judged before the capture is.
-ghost use Rattle.std.specs.Prelude.{◌≡◌, ◌≤◌, ◌+◌, ℕ, IfErr, IfOk};
+ghost use Rattle.std.specs.Prelude.{◌≡◌, ◌≤◌, ◌+◌, ℕ, length, IfErr, IfOk, OnOk};
+ghost use Rattle.sha2.specs.Sha256.{sha256};
 ghost use Rattle.seatmelon_commands.specs.Failing.{IsOfExplaining, status_of};
 ghost use Rattle.seatmelon_many.specs.Files.{count_in};
 ghost use Rattle.seatmelon_many.specs.Judged.{AreOf};
@@ -7,24 +8,73 @@ ghost use Rattle.seatmelon_many.specs.Judged.{AreOf};
 use crate::files::{Origin, ParameterFiles};
 use rasta_pdu::Params;
 use seatmelon_commands::{Failure, of_folder, params_in, status, whole_file};
+use sha2::{Digest, Sha256};
+use std::alloc::Global;
 use std::rt::Files;
+
+/// The parameters of files, and the SHA-256 of each file, in the order of the files.
+#[derive(Drop)]
+pub struct Recorded {
+    pub params: Vec<Params>,
+    pub sums: Vec<[u8; 32]>,
+}
 
 /// What parameter files come to.
 #[derive(Drop)]
 pub enum Judged {
-    /// The parameters, in the order of the files.
-    All(Vec<Params>),
+    /// The parameters.
+    All(Recorded),
 
     /// One of the files at least is refused, or can't be read, which was told: the program's status.
     Refused(u8),
 }
 
-// The parameters of the file of that path.
-fn params_at<R: AllocGlobal + Files>(rt: &R, path: &str) -> Result<Params, Failure>
+// The parameters of a file, and its SHA-256.
+#[derive(Clone, Copy)]
+struct ParameterFile {
+    params: Params,
+    sum: [u8; 32],
+}
+
+impl Recorded {
+    fn new(alloc: Global) -> Recorded
+        ensures { length result.params.items ≡ 0 }
+    {
+        Recorded {
+            params: Vec::new(alloc),
+            sums: Vec::new(alloc),
+        }
+    }
+
+    // Adds those of one more file.
+    fn add(&mut self, file: ParameterFile) -> Result<(), Failure>
+        ensures ok { OnOk result (length self.new.params.items ≡ length self.old.params.items + 1) }
+        ensures err { IfErr result IsOfExplaining }
+    {
+        match (self.sums.push(file.sum), self.params.push(file.params)) {
+            (Ok(()), Ok(())) => Ok(()),
+            _ => Err(Failure::OutOfMemory),
+        }
+    }
+}
+
+// The SHA-256 of a text.
+fn sum_of(text: &[u8]) -> [u8; 32]
+    ensures { result ≡ sha256 text.now }
+{
+    let mut sum = [0; 32];
+    sum.copy_from_slice(&Sha256::digest(text));
+    sum
+}
+
+// What the file of that path holds.
+fn file_at<R: AllocGlobal + Files>(rt: &R, path: &str) -> Result<ParameterFile, Failure>
     ensures { IfErr result IsOfExplaining }
 {
     let text = whole_file(rt, path)?;
-    params_in(rt.alloc(), path, &text)
+    let params = params_in(rt.alloc(), path, &text)?;
+    let sum = sum_of(&text);
+    Ok(ParameterFile { params, sum })
 }
 
 // Why a file that was named so has no parameters.
@@ -38,12 +88,16 @@ fn told_of(failure: Failure, origin: Origin) -> Failure
     }
 }
 
-// The parameters of the file of that path, which was named so.
-fn params_of<R: AllocGlobal + Files>(rt: &R, path: &str, origin: Origin) -> Result<Params, Failure>
+// What the file of that path holds, which was named so.
+fn file_of<R: AllocGlobal + Files>(
+    rt: &R,
+    path: &str,
+    origin: Origin,
+) -> Result<ParameterFile, Failure>
     ensures { IfErr result IsOfExplaining }
 {
-    match params_at(rt, path) {
-        Ok(params) => Ok(params),
+    match file_at(rt, path) {
+        Ok(file) => Ok(file),
         Err(failure) => Err(told_of(failure, origin)),
     }
 }
@@ -62,20 +116,20 @@ fn refused<R: Eprint>(rt: &R, judged: &Judged, failure: &Failure) -> u8
     }
 }
 
-// What the files come to with one more, whose parameters or failure this is.
+// What the files come to with one more, of which this is read.
 fn with_one<R: Eprint>(
     rt: &R,
     judged: Judged,
-    read: Result<Params, Failure>,
+    read: Result<ParameterFile, Failure>,
 ) -> Result<Judged, Failure>
     requires { IfErr read IsOfExplaining }
     ensures all { (n : ℕ) → AreOf n judged → IfOk result (AreOf (n + 1)) }
     ensures err { IfErr result IsOfExplaining }
 {
     match (read, judged) {
-        (Ok(params), Judged::All(mut all)) => match all.push(params) {
+        (Ok(file), Judged::All(mut all)) => match all.add(file) {
             Ok(()) => Ok(Judged::All(all)),
-            Err(_) => Err(Failure::OutOfMemory),
+            Err(failure) => Err(failure),
         },
         (Ok(_), refused) => Ok(refused),
         (Err(Failure::OutOfMemory), _) => Err(Failure::OutOfMemory),
@@ -91,10 +145,10 @@ pub fn judge<R: AllocGlobal + Files + Eprint>(
     ensures all { IfOk result (AreOf (count_in files.now)) }
     ensures err { IfErr result IsOfExplaining }
 {
-    let mut judged = Judged::All(Vec::new(rt.alloc()));
+    let mut judged = Judged::All(Recorded::new(rt.alloc()));
     for (place, path) in files.names().iter().enumerate() {
-        let params = params_of(rt, path.as_str(), files.origin(place));
-        judged = with_one(rt, judged, params)?;
+        let read = file_of(rt, path.as_str(), files.origin(place));
+        judged = with_one(rt, judged, read)?;
     }
     Ok(judged)
 }

@@ -6,5 +6,5 @@ mod drafting;
 mod files;
 mod judging;
 
-pub use auditing::{Audited, Auditing, Form, audit_files, audit_of};
+pub use auditing::{Audited, Auditing, Form, Named, audit_files, audit_of};
 pub use drafting::{DraftingAll, draft_all};

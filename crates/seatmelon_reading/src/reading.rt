@@ -120,8 +120,8 @@ fn pass_capture<S: Source>(alloc: Global, source: &mut S, pass: &mut Pass<'_>) -
     }
 }
 
-// Reads to the end of input.
-fn drain<S: Source>(source: &mut S) -> Result<(), Fault>
+/// Reads to the end of input. Refused by [`Fault::READ_FAILED`] alone.
+pub fn drain<S: Source>(source: &mut S) -> Result<(), Fault>
     ensures passed { PassesOn S.remaining S.notes source.old source.new }
     ensures ended { OnOk result (IsAtEnd (S.remaining source.new)) }
     ensures err { IfErr result (λ f. f ≡ read_failed) }

@@ -4,6 +4,7 @@ ghost use Rattle.rasta_pcap.specs.Fault.{write_failed};
 
 use crate::counts::{Counts, is_cut};
 use crate::json_facts::{truth, write_facts};
+use crate::json_inputs::{Inputs, write_inputs};
 use rasta_pcap::{CaptureTime, Fault, Side, Sink};
 use seatmelon_audit::{
     Answer, Audit, Before, Connection, Conveyed, Explained, Refusal, Share, ShownOf, Subject,
@@ -228,18 +229,18 @@ fn write_other_link_type<W: Sink>(writer: &mut W, format: Format) -> Result<(), 
     }
 }
 
-/// Writes an audit of a file in this format as one JSON object and a line feed. The names stand in the order of the
-/// connections.
+/// Writes an audit of these files, the capture in this format, as one JSON object and a line feed.
 pub fn write_audit_json<W: Sink>(
     writer: &mut W,
-    names: &[String],
+    inputs: &Inputs<'_>,
     audit: &Audit,
     format: Format,
 ) -> Result<(), Fault>
     ensures err { IfErr result (λ f. f ≡ write_failed) }
 {
-    write_words(writer, "{\"connections\":[")?;
-    write_connections(writer, names, audit)?;
+    write_inputs(writer, inputs)?;
+    write_words(writer, ",\"connections\":[")?;
+    write_connections(writer, inputs.names, audit)?;
     tell!(
         writer,
         "],\"records\":",

@@ -11,13 +11,12 @@ use crate::json_params::{write_offers, write_params};
 use crate::json_places::write_number_if;
 use crate::json_refusal::write_refusal;
 use crate::json_supposed::{verdict_with, write_supposed};
-use crate::page::PROGRAM;
 use rasta_pcap::{Fault, Sink};
 use seatmelon_account::{Account, File, Verdict};
 use seatmelon_pcapng::Format;
 use seatmelon_reading::{ChannelCount, Window};
 use seatmelon_text::json::{write_long, write_string};
-use seatmelon_text::{Part, tell, write_words};
+use seatmelon_text::{PROGRAM, Part, tell, write_words};
 
 // Writes a file's name and its SHA-256, as an object that is yet to be ended.
 fn begin_file<W: Sink>(writer: &mut W, file: &File<'_>) -> Result<(), Fault>

@@ -32,5 +32,4 @@ mod text;
 mod words;
 
 pub use json::write_json;
-pub use page::PROGRAM;
 pub use text::write_text;

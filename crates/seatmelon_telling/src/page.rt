@@ -11,10 +11,7 @@ use rasta_udp::Channel;
 use seatmelon_account::{Account, File, Offer, Offers};
 use seatmelon_pcapng::Format;
 use seatmelon_reading::{ChannelCount, Sighting, Window};
-use seatmelon_text::{Part, parts, tell, write_parts, write_words};
-
-/// The program, and what it was proved with: the sum of the logic, which `rt version` prints too.
-pub const PROGRAM: &str = "seatmelon 0.1.0, proved with Rattle, logic dac8208d650f15bf";
+use seatmelon_text::{PROGRAM, Part, parts, tell, write_parts, write_words};
 
 // Writes a file's name and its SHA-256.
 fn write_file<W: Sink>(writer: &mut W, what: &str, file: &File<'_>) -> Result<(), Fault>

@@ -14,7 +14,7 @@ use seatmelon_commands::{
     survey_of, write_answer,
 };
 use seatmelon_explain::{Extent, Form};
-use seatmelon_many::{Auditing, audit_of};
+use seatmelon_many::{Auditing, Named, audit_of};
 use seatmelon_tally::status_of;
 use std::alloc::Global;
 use std::io;
@@ -307,7 +307,11 @@ fn audit_many(alloc: Global, capture: &[u8], station: &Station, folded: &mut Fol
     };
     let params = station.params.get(..station.params.len().min(4096))?;
     let device = Folding::new(folded);
-    let audited = audit_of(alloc, &auditing, &station.names, params, capture, device).ok()?;
+    let named = Named {
+        names: &station.names,
+        sums: &[],
+    };
+    let audited = audit_of(alloc, &auditing, &named, params, capture, device).ok()?;
     Some(status_of(&audited.audit))
 }
 

@@ -4,7 +4,8 @@ use rasta_pcap::devices::{FailAt, Pieces, WriteDevice};
 use rasta_pcap::{CaptureTime, Counted, Fault, FractionUnit, Sink, Source};
 use seatmelon_audit::{Answer, Audit, Connection, Conveyed, Explained, Facts, Span, Stamp, audit};
 use seatmelon_pcapng::{Format, Reason, Refusal, Remarks};
-use seatmelon_tally::{status_of, write_audit, write_audit_json};
+use seatmelon_tally::{Inputs, status_of, write_audit, write_audit_json};
+use seatmelon_text::PROGRAM;
 use std::alloc::Global;
 use std::process::Abort;
 
@@ -17,32 +18,53 @@ enum Form {
 
 const FORMS: [Form; 2] = [Form::Text, Form::Json];
 
+// Parameter files of these names, of which these have sums, beside the capture.
+fn inputs_of<'a>(names: &'a [String], sums: &'a [[u8; 32]]) -> Inputs<'a> {
+    Inputs {
+        capture: "c",
+        capture_sum: [171; 32],
+        names,
+        sums,
+    }
+}
+
 // Writes an audit of a file in this format in a form.
 fn write_in<W: Sink>(
     form: Form,
     writer: &mut W,
-    names: &[String],
+    inputs: &Inputs<'_>,
     audit: &Audit,
     format: Format,
 ) -> Result<(), Fault> {
     match form {
-        Form::Text => write_audit(writer, names, audit, format),
-        Form::Json => write_audit_json(writer, names, audit, format),
+        Form::Text => write_audit(writer, inputs.names, audit, format),
+        Form::Json => write_audit_json(writer, inputs, audit, format),
     }
 }
 
 // What is written on an audit in a form.
-fn text_on(alloc: Global, form: Form, names: &[String], audit: &Audit) -> Option<Vec<u8>> {
+fn text_on(alloc: Global, form: Form, inputs: &Inputs<'_>, audit: &Audit) -> Option<Vec<u8>> {
     let mut writer = Counted::new(Vec::new(alloc));
-    write_in(form, &mut writer, names, audit, Format::Classic).ok()?;
+    write_in(form, &mut writer, inputs, audit, Format::Classic).ok()?;
     Some(writer.into_inner())
 }
 
-// What is wanted of a case in a form.
+const CAPTURE_SUM: &str = "abababababababababababababababababababababababababababababababab";
+
+// The object that stands there over several lines, as it is told of these parameter files.
+fn object_of(alloc: Global, parameters: &str, lines: &str) -> Option<String> {
+    let line = line_of(alloc, lines)?;
+    let rest = line.as_str().strip_prefix('{')?;
+    format!(in alloc;
+        "{{\"program\":\"{PROGRAM}\",\"capture\":{{\"name\":\"c\",\"sha256\":\"{CAPTURE_SUM}\"}},\"parameters\":[{parameters}],{rest}"
+    ).ok()
+}
+
+// What is wanted of a case in a form, where no sum of a parameter file is known.
 fn wanted(alloc: Global, form: Form, case: &Case<'_>) -> Option<String> {
     match form {
         Form::Text => String::from_str(alloc, case.text).ok(),
-        Form::Json => line_of(alloc, case.json),
+        Form::Json => object_of(alloc, "", case.json),
     }
 }
 
@@ -64,7 +86,7 @@ fn is_told_in(
     given: &Given,
     audit: &Audit,
 ) -> Option<bool> {
-    let text = text_on(alloc, form, given.names.as_slice(), audit)?;
+    let text = text_on(alloc, form, &inputs_of(given.names.as_slice(), &[]), audit)?;
     Some(text.as_slice() == wanted(alloc, form, case)?.as_bytes())
 }
 
@@ -167,13 +189,17 @@ fn great_names(alloc: Global) -> Option<Vec<String>> {
     Some(names)
 }
 
+const GREAT_FILES: &str =
+    r#"{"name":"a \"b\".toml","sha256":"0101010101010101010101010101010101010101010101010101010101010101"},{"name":"c.toml","sha256":"2020202020202020202020202020202020202020202020202020202020202020"}"#;
+
 // Whether that audit is told in both forms as it is wanted.
 fn is_great_told(alloc: Global) -> Option<bool> {
     let audit = great_audit(alloc)?;
     let names = great_names(alloc)?;
-    let text = text_on(alloc, Form::Text, names.as_slice(), &audit)?;
-    let json = text_on(alloc, Form::Json, names.as_slice(), &audit)?;
-    let wanted_json = line_of(alloc, GREAT_JSON)?;
+    let inputs = inputs_of(names.as_slice(), &[[1; 32], [32; 32]]);
+    let text = text_on(alloc, Form::Text, &inputs, &audit)?;
+    let json = text_on(alloc, Form::Json, &inputs, &audit)?;
+    let wanted_json = object_of(alloc, GREAT_FILES, GREAT_JSON)?;
     let is_json_told = json.as_slice() == wanted_json.as_bytes();
     Some(text.as_slice() == GREAT_TEXT.as_bytes() && is_json_told && status_of(&audit) == 1)
 }
@@ -200,7 +226,7 @@ fn text_on_refused(alloc: Global, form: Form) -> Option<Vec<u8>> {
         other_link_type: Some(276),
     });
     let mut writer = Counted::new(Vec::new(alloc));
-    write_in(form, &mut writer, &[], &audit, format).ok()?;
+    write_in(form, &mut writer, &inputs_of(&[], &[]), &audit, format).ok()?;
     Some(writer.into_inner())
 }
 
@@ -212,11 +238,15 @@ const REFUSED_TEXT: &str =
 const REFUSED_JSON: &str = "{\"connections\":[],\"records\":1,\"packets\":0,\"others\":1,\
     \"fault\":{\"number\":14,\"name\":\"CutRecord\",\"record\":2,\
     \"block\":{\"offset\":60,\"reason\":\"the two lengths of a block differ\"}},\
-    \"other_link_type\":276}\n";
+    \"other_link_type\":276}";
 
 // Whether the refusal of a file is told so in a form.
 fn is_refusal_told(alloc: Global, form: Form, text: &str) -> Option<bool> {
-    Some(text_on_refused(alloc, form)?.as_slice() == text.as_bytes())
+    let told = text_on_refused(alloc, form)?;
+    match form {
+        Form::Text => Some(told.as_slice() == text.as_bytes()),
+        Form::Json => Some(told.as_slice() == object_of(alloc, "", text)?.as_bytes()),
+    }
 }
 
 #[test]
@@ -264,13 +294,13 @@ fn failing_reads(rt: HostRuntime) {
 // answered.
 fn is_right_by(
     form: Form,
-    names: &[String],
+    inputs: &Inputs<'_>,
     audit: &Audit,
     want: &str,
     device: FailAt<Vec<u8>>,
 ) -> bool {
     let mut writer = Counted::new(device);
-    let outcome = write_in(form, &mut writer, names, audit, Format::Classic);
+    let outcome = write_in(form, &mut writer, inputs, audit, Format::Classic);
     let has_failed = Sink::failures(&writer) > 0;
     let text = writer.into_inner().into_inner();
     if has_failed {
@@ -287,13 +317,13 @@ fn first_wrong_write(alloc: Global, form: Form) -> Option<Option<u64>> {
     let given = case.given(alloc)?;
     let mut reader = Counted::new(given.file.as_slice());
     let audit = audited(alloc, &given, &mut reader)?.ok()?;
-    let names = given.names.as_slice();
+    let inputs = inputs_of(given.names.as_slice(), &[]);
     let want = wanted(alloc, form, &case)?;
     for call in 0..300 {
         let failing = FailAt::new(Vec::new(alloc), call);
         let idling = FailAt::idle_at(Vec::new(alloc), call);
-        let is_right = is_right_by(form, names, &audit, want.as_str(), failing);
-        if !(is_right && is_right_by(form, names, &audit, want.as_str(), idling)) {
+        let is_right = is_right_by(form, &inputs, &audit, want.as_str(), failing);
+        if !(is_right && is_right_by(form, &inputs, &audit, want.as_str(), idling)) {
             return Some(Some(call));
         }
     }

@@ -4,7 +4,7 @@ use super::parameters::{OTHER_PARAMETERS, PARAMETERS};
 use rasta_pcap::devices::{FailAt, Pieces};
 use seatmelon_commands::{Explaining, Inputs, explain_of, params_in, status, status_of_outcome};
 use seatmelon_explain::{Extent, Form};
-use seatmelon_many::{Auditing, audit_of};
+use seatmelon_many::{Auditing, Named, audit_of};
 use seatmelon_tally::status_of;
 use std::alloc::Global;
 use std::io::{Read, Write};
@@ -100,7 +100,11 @@ fn audited<D: Read + Drop>(alloc: Global, file: D) -> Option<String> {
         params_in(alloc, "q", OTHER_PARAMETERS).ok()?,
     ];
     let mut text = Vec::new(alloc);
-    match audit_of(alloc, &auditing, &names, &params, file, &mut text) {
+    let named = Named {
+        names: &names,
+        sums: &[],
+    };
+    match audit_of(alloc, &auditing, &named, &params, file, &mut text) {
         Ok(audited) => {
             let code = status_of(&audited.audit);
             let text = str::from_utf8(&text).ok()?;

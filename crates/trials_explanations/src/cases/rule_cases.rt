@@ -45,7 +45,17 @@ const RULES: &str = r#"
   T_max: 1800, slack: 0
   deadline: 10800
 == byes plain: 0 1 5 6 |  |  | plain |  | A second opening.
-  the end can't make this PDU in this phase for this reason
+  the client is connected: it may send what it owes, or else data, a heartbeat or a disconnection request
+== byes plain: 0 6 | 194=8 210=101 |  | plain |  | A second opening before the first one is answered.
+  the client is opening: before it takes the connection response it may send only a disconnection request
+== byes plain: 1 | 92=56 |  | plain |  | The server opens.
+  the server waits for a connection request, and may send nothing before it
+== byes plain: 0 1 1 | 302=41 318=245 |  | plain |  | A second connection response.
+  the server is opening: it may send one connection response, and else only a disconnection request
+== lost plain: 0 1 2 3 4 5 1 | 684=42 690=56 700=246 |  | plain |  | The server opens while it asks.
+  the server asks for a retransmission: it may send what it owes, or else data, a heartbeat or a disconnection request
+== lost plain: 0 1 2 3 4 5 6 1 | 778=42 794=246 798=104 802=130 803=35 806=46 807=4 |  | plain |  | The server answers an opening in a retransmission.
+  the server takes a retransmission: it may send what it owes, or else data, a heartbeat or a disconnection request
 "#;
 
 /// The cases of rules behind a 60.
