@@ -345,6 +345,16 @@ def same_told(text, data):
     return right and f"; {data['packets']} packets; {data['others']} record" in lines[-1]
 
 
+def file_told(name):
+    """What JSON tells of a file of the samples."""
+    return {"name": name, "sha256": hashlib.sha256((SAMPLES / name).read_bytes()).hexdigest()}
+
+
+def sums_told(data, capture, names):
+    """Whether data tell the sums of these files of the samples."""
+    return data["capture"] == file_told(capture) and data["parameters"] == [file_told(name) for name in names]
+
+
 def audits_of_the_sample(part):
     stored = (SAMPLES / "expected" / "station.audits.txt").read_text()
     whole = part.call("audit", "station/station.pcap", "station", cwd=SAMPLES)
@@ -355,7 +365,13 @@ def audits_of_the_sample(part):
     answer = part.call("audit", "-", "station", cwd=SAMPLES, input=(STATION / "station.pcap").read_bytes())
     part.judge("audit, standard input", answer == whole, answer)
     answer = part.call("audit", "--json", "station/station.pcap", "station", cwd=SAMPLES)
-    part.judge("audit, JSON", answer[0] == 1 and same_told(stored, json.loads(answer[1])), answer)
+    data = json.loads(answer[1])
+    is_told = same_told(stored, data) and sums_told(data, "station/station.pcap", names)
+    part.judge("audit, JSON", answer[0] == 1 and is_told, answer)
+    # Windows end before the file does, which is summed up whole all the same.
+    answer = part.call("audit", "--json", "excerpt.pcap", "excerpt.toml", "quiet_start.toml", cwd=SAMPLES)
+    is_told = sums_told(json.loads(answer[1]), "excerpt.pcap", ["excerpt.toml", "quiet_start.toml"])
+    part.judge("audit, sums", is_told and not answer[2], answer)
     lines = stored.splitlines(True)
     answer = part.call("audit", "station/station.pcap", names[1], names[0], names[1], cwd=SAMPLES)
     told = lines[1] + lines[0] + lines[1] + "3 connections: 3 explained; 29 packets; 12 records of none of these connections\n"

@@ -1,6 +1,6 @@
 //! The command `audit`.
 ghost use Rattle.std.specs.Prelude.{◌≡◌, ◌<◌, ◌≤◌, ◌^◌, IfErr, IfOk, IfSome, length};
-ghost use Rattle.seatmelon_pcapng.specs.Formats.{capture_of};
+ghost use Rattle.seatmelon_pcapng.specs.Formats.{capture_of, left_in};
 ghost use Rattle.seatmelon_audit.specs.Audits.{AreAudits};
 ghost use Rattle.seatmelon_commands.specs.Failing.{status_of, IsOfExplaining};
 
@@ -103,6 +103,23 @@ fn write_to<W: Write + Drop>(
     finish(alloc, STANDARD_OUTPUT, output, written)
 }
 
+// Audits the connections with these parameters in a capture that was opened.
+fn audit_opened<S: Source>(
+    alloc: Global,
+    params: &[Params],
+    capture: &mut Capture<S>,
+) -> Result<Audit, Fault>
+where
+    S: Drop,
+    requires { length params.now < 2 ^ 32 }
+    ensures { IfSome (left_in S.remaining capture.old) (λ file. IfOk result (AreAudits params.now file)) }
+{
+    match audit(alloc, params, capture) {
+        Ok(audit) => Ok(audit),
+        Err(fault) => Err(capture.fault_met(fault)),
+    }
+}
+
 // Audits the connections with these parameters in what a source gives, a file in either format. The source is taken
 // whole: a capture isn't opened over a reader that is borrowed here.
 fn audit_file<S: Source>(alloc: Global, params: &[Params], source: S) -> Result<FileAudit, Fault>
@@ -112,18 +129,12 @@ where
     ensures { IfSome (S.remaining source) (λ file. IfOk result (λ a. AreAudits params.now (capture_of file) a.audit)) }
 {
     let mut capture = Capture::open(alloc, source)?;
-    match audit(alloc, params, &mut capture) {
-        Ok(audit) => {
-            let format = capture.format();
-            let page = Page::Text;
-            Ok(FileAudit {
-                audit,
-                format,
-                page,
-            })
-        }
-        Err(fault) => Err(capture.fault_met(fault)),
-    }
+    let audit = audit_opened(alloc, params, &mut capture)?;
+    Ok(FileAudit {
+        audit,
+        format: capture.format(),
+        page: Page::Text,
+    })
 }
 
 // Audits them in the same way, and sums up the file, which is read to its end.
@@ -134,22 +145,17 @@ where
     ensures { IfSome (S.remaining source) (λ file. IfOk result (λ a. AreAudits params.now (capture_of file) a.audit)) }
 {
     let mut capture = Capture::open(alloc, Summed::new(source))?;
-    match audit(alloc, params, &mut capture) {
-        Ok(audit) => {
-            let format = capture.format();
-            let mut summed = capture.into_inner();
-            drain(&mut summed)?;
-            let page = Page::Json {
-                capture_sum: summed.into_digest(),
-            };
-            Ok(FileAudit {
-                audit,
-                format,
-                page,
-            })
-        }
-        Err(fault) => Err(capture.fault_met(fault)),
-    }
+    let audit = audit_opened(alloc, params, &mut capture)?;
+    let format = capture.format();
+    let mut summed = capture.into_inner();
+    drain(&mut summed)?;
+    Ok(FileAudit {
+        audit,
+        format,
+        page: Page::Json {
+            capture_sum: summed.into_digest(),
+        },
+    })
 }
 
 /// Audits the connections with these parameters, whose files are named, in one reading of the file that a reader gives,
