@@ -18,6 +18,7 @@ NAME.suppose.txt that of `explain --suppose 1`. Prints a line for each part. `rt
 
 import argparse
 import gzip
+import hashlib
 import json
 import os
 import pathlib
@@ -368,9 +369,9 @@ def audits_of_the_sample(part):
     data = json.loads(answer[1])
     is_told = same_told(stored, data) and sums_told(data, "station/station.pcap", names)
     part.judge("audit, JSON", answer[0] == 1 and is_told, answer)
-    # Windows end before the file does, which is summed up whole all the same.
-    answer = part.call("audit", "--json", "excerpt.pcap", "excerpt.toml", "quiet_start.toml", cwd=SAMPLES)
-    is_told = sums_told(json.loads(answer[1]), "excerpt.pcap", ["excerpt.toml", "quiet_start.toml"])
+    # The window ends before the file does, which is summed up whole all the same.
+    answer = part.call("audit", "--json", "excerpt.pcap", "excerpt.toml", cwd=SAMPLES)
+    is_told = sums_told(json.loads(answer[1]), "excerpt.pcap", ["excerpt.toml"])
     part.judge("audit, sums", is_told and not answer[2], answer)
     lines = stored.splitlines(True)
     answer = part.call("audit", "station/station.pcap", names[1], names[0], names[1], cwd=SAMPLES)
