@@ -184,9 +184,9 @@ fn words_on(cause: Cause) -> [Part<'static>; 6] {
         } => parts![
             "on channel ",
             channel,
-            " only ",
+            " few packets were captured: ",
             packets,
-            " packets were captured, and on the fullest ",
+            ", and on the fullest ",
             fullest
         ],
         Cause::Falling { record } => parts![
@@ -206,7 +206,7 @@ fn words_on(cause: Cause) -> [Part<'static>; 6] {
             ""
         ],
         Cause::Middle => parts![
-            "the capture begins in the middle of the connection: its first packets may be late copies of PDUs from before it",
+            "the first packets of the capture may be late copies of PDUs from before it",
             "",
             "",
             "",
@@ -214,7 +214,7 @@ fn words_on(cause: Cause) -> [Part<'static>; 6] {
             ""
         ],
         Cause::MiddleUpTo { record } => parts![
-            "the capture begins in the middle of the connection: its first packets may be late copies of PDUs from before it; from record ",
+            "the first packets of the capture may be late copies of PDUs from before it; from record ",
             record,
             " on the numbers of each end rise by one",
             "",

@@ -1,5 +1,6 @@
 //! Captures, and the texts that are wanted of them. Each table is one text, which one function names: each of many
 //! texts costs a proof more than all of them in one.
+pub mod cause_cases;
 pub mod file_cases;
 pub mod json_cases;
 pub mod middle_cases;

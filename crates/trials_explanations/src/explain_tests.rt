@@ -1,4 +1,5 @@
 //! The text of an explanation, and what is answered where a device goes wrong.
+use crate::cases::cause_cases::{CAUSES, causes};
 use crate::cases::file_cases::files;
 use crate::cases::middle_cases::{counted, shown};
 use crate::cases::packet_cases::packets;
@@ -199,6 +200,11 @@ fn what_packets_show(rt: HostRuntime) {
 #[test]
 fn told_rules(rt: HostRuntime) {
     assert_eq!(rt; first_wrong_after(rt.alloc(), RULE, rules()), None);
+}
+
+#[test]
+fn told_causes(rt: HostRuntime) {
+    assert_eq!(rt; first_wrong_after(rt.alloc(), CAUSES, causes()), None);
 }
 
 #[test]
