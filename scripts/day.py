@@ -1,13 +1,14 @@
 #!/usr/bin/env python3
 """A day of somebody new with captures that aren't known: makes them, and does with them what docs/INVESTIGATORS.md says.
 
-    day.py [--seatmelon PATH] [--packets N] [--keep FOLDER]
+    day.py [--seatmelon PATH] [--packets N] [--seed WORD] [--keep FOLDER]
 
-The captures are made by the ends of random_runs.py over a calm network: a whole port with five connections, copies of
-an opening and strangers between them; one with start words of its own; one in which a packet is missing; one with
-many packets (400,000); some with other link types; some with a short snapshot length; and one of forty connections, of
-which one lacks a packet. Prints for each task its
-commands and the seconds that they took; a task that doesn't come out as it should is named, and the status is 1.
+The captures are made by the ends of random_runs.py over a calm network, others for each seed: a whole port with five
+connections, copies of an opening and strangers between them; one with start words of its own; one in which a packet is
+missing; one with many packets (400,000); some with other link types, and some of Linux's `any`; some with a short
+snapshot length; one of forty connections, of which one lacks a packet; a port of ten connections in two rotated pcapng
+files; a connection whose two ends were tapped apart; and a loop, in which each packet comes once more. Prints for each
+task its commands and the seconds that they took; a task that doesn't come out as it should is named, and the status is 1.
 Parameters come from drafts, with the values of the 'engineering data' in place of placeholders, as a person would fill
 them in. `rt run` in crates/seatmelon leaves the program. Plain Python 3, no other packages.
 """
@@ -23,6 +24,7 @@ import sys
 import tempfile
 import time
 
+import pcapng
 import random_runs
 import rows
 
@@ -30,6 +32,7 @@ SEATMELON = rows.TOP / "crates/seatmelon/out/seatmelon"
 WORDS = (0x0F1E2D3C, 0x4B5A6978, 0x8796A5B4, 0xC3D2E1F0)
 MD4_WORDS = (0x67452301, 0xEFCDAB89, 0x98BADCFE, 0x10325476)
 BEGIN = 1_767_225_600  # 2026-01-01
+DISCONNECTION_REQUEST = 6216
 
 
 # ---- captures
@@ -106,6 +109,11 @@ class Connection:
         return {"t_max": 1800, "slack": 0, "n_sendmax": 20, "md4_start": f'"{words}"'}
 
 
+def kind_of(frame):
+    """The type of the PDU in a frame."""
+    return struct.unpack_from("<H", frame, 52)[0]
+
+
 def strangers(chance, count):
     """Frames of no connection: of ARP, and of other services over UDP."""
     for _ in range(count):
@@ -132,12 +140,21 @@ def capture_of(frames):
 
 
 class Day:
-    def __init__(self, program, folder):
-        self.program, self.folder, self.wrong = program, folder, 0
+    def __init__(self, program, folder, seed):
+        self.program, self.folder, self.seed, self.wrong = program, folder, seed, 0
         self.commands, self.seconds = 0, 0.0
 
     def path(self, name):
         return self.folder / name
+
+    def connection(self, name, *more, **others):
+        """A connection of this name, another one for each seed."""
+        return Connection(f"{self.seed} {name}", *more, **others)
+
+    def open_connection(self, name, *more, **others):
+        """One that no end closes."""
+        made = (self.connection(f"{name} {number}", *more, **others) for number in range(1000))
+        return next(it for it in made if DISCONNECTION_REQUEST not in (kind_of(frame) for _, frame in it.frames))
 
     def call(self, *words):
         """Status, and both texts of a call."""
@@ -169,8 +186,8 @@ class Day:
 
 def whole_port(day):
     """Five connections of one port: which are there, and which are in order."""
-    chance = random.Random("port")
-    connections = [Connection(f"port {n}", n, (96 + 2 * n, 97 + 2 * n), packets=190) for n in range(5)]
+    chance = random.Random(f"{day.seed} strangers")
+    connections = [day.connection(f"port {n}", n, (96 + 2 * n, 97 + 2 * n), packets=190) for n in range(5)]
     frames = [it for connection in connections for it in connection.frames]
     late = connections[2].frames[:4]
     frames += [(moment + 5, frame) for moment, frame in late]
@@ -188,7 +205,7 @@ def whole_port(day):
 
 def start_words(day):
     """A connection with start words of its own, which the draft can't know."""
-    connection = Connection("words", 9, (96, 97), WORDS)
+    connection = day.connection("words", 9, (96, 97), WORDS)
     capture = day.path("words.pcap")
     capture.write_bytes(capture_of(connection.frames))
     values = connection.values()
@@ -206,7 +223,7 @@ def start_words(day):
 
 def missing_packet(day):
     """A packet in the middle never reached the tap: what stands before the gap and behind it is explained apart."""
-    connection = Connection("missing", 11, (96, 97), packets=400, copies=False)
+    connection = day.connection("missing", 11, (96, 97), packets=400, copies=False)
     capture = day.path("missing.pcap")
     for place in range(120, 300):
         frames = connection.frames[:place] + connection.frames[place + 1 :]
@@ -233,7 +250,7 @@ def missing_packet(day):
 
 def many_packets(day, packets):
     """As many packets as a working day has: what matters stands first."""
-    connection = Connection("many", 15, (96, 97), packets=packets)
+    connection = day.connection("many", 15, (96, 97), packets=packets)
     capture = day.path("many.pcap")
     capture.write_bytes(capture_of(connection.frames))
     parameters = day.filled_in(capture, 1, connection.values(), "many.toml")
@@ -245,23 +262,55 @@ def many_packets(day, packets):
     day.expect("not shown", answer[0] == 0 and len(answer[1].splitlines()) < 200, answer)
 
 
+LINK_TYPES = {113: "Linux cooked capture", 276: "Linux cooked capture v2", 200: None}
+
+
 def other_frames(day):
     """Captures that weren't made on an Ethernet interface: what their frames are, and what can be done."""
-    connection = Connection("frames", 19, (96, 97))
+    connection = day.connection("frames", 19, (96, 97))
     ethernet, capture = capture_of(connection.frames), day.path("frames.pcap")
     capture.write_bytes(ethernet)
     parameters = day.filled_in(capture, 1, connection.values(), "frames.toml")
-    for number, name in ((113, "Linux cooked capture"), (276, "Linux cooked capture v2"), (200, None)):
+    for number, name in LINK_TYPES.items():
         capture.write_bytes(ethernet[:20] + struct.pack("<I", number) + ethernet[24:])
         words = f"of link type {number}" + (f" ({name})" if name else "")
+        advice = "seatmelon convert CAPTURE > OUT" if name else "Ethernet interface"
         for command in (("survey", capture), ("draft", capture, 1), ("show", capture, parameters)):
             answer = day.call(*command)
-            day.expect(command[0], answer[0] == 1 and words in answer[2] and "Ethernet interface" in answer[2], answer)
+            day.expect(command[0], answer[0] == 1 and words in answer[2] and advice in answer[2], answer)
         answer = day.call("explain", capture, parameters)
-        day.expect("explain", answer[0] == 1 and words in answer[1] and "Ethernet interface" in answer[1], answer)
+        day.expect("explain", answer[0] == 1 and words in answer[1] and advice in answer[1], answer)
         status, text, error = day.call("explain", capture, parameters, "--json")
         told = json.loads(text)
         day.expect("JSON", status == 1 and (told["link_type"], told["link_type_name"]) == (number, name), (status, text, error))
+
+
+def cooked(number, frame):
+    """An Ethernet frame as Linux's `any` gives it, with a cooked header of this link type."""
+    address, protocol = b"\x02\0\0\0\0\x07", frame[12:14]
+    if number == 113:
+        return struct.pack(">HHH", 0, 1, 6) + address + bytes(2) + protocol + frame[14:]
+    return protocol + bytes(2) + struct.pack(">IHBB", 3, 1, 0, 6) + address + bytes(2) + frame[14:]
+
+
+def captures_of_any(day):
+    """Captures of Linux's `any`: one command makes Ethernet frames of them, and the answers are those of the frames."""
+    connection = day.connection("any", 23, (96, 97))
+    ethernet, capture = capture_of(connection.frames), day.path("any.pcap")
+    capture.write_bytes(ethernet)
+    parameters = day.filled_in(capture, 1, connection.values(), "any.toml")
+    whole = day.call("audit", capture, parameters)
+    for number in (113, 276):
+        frames = capture_of([(moment, cooked(number, frame)) for moment, frame in connection.frames])
+        capture.write_bytes(frames[:20] + struct.pack("<I", number) + frames[24:])
+        answer = day.call("audit", capture, parameters)
+        day.expect("the command is named", answer[0] == 1 and "seatmelon convert CAPTURE > OUT" in answer[2], answer)
+        with day.path("converted.pcap").open("wb") as out:
+            ran = subprocess.run([day.program, "convert", str(capture)], stdout=out, stderr=subprocess.PIPE, text=True)
+        is_told = f"that got Ethernet headers: {len(connection.frames)};" in ran.stderr
+        day.expect("converted", ran.returncode == 0 and is_told, (ran.returncode, "", ran.stderr))
+        answer = day.call("audit", day.path("converted.pcap"), parameters)
+        day.expect("the same answer", answer == whole and answer[0] == 0, answer)
 
 
 def cut_to(capture, length):
@@ -277,7 +326,7 @@ def cut_to(capture, length):
 
 def short_snapshots(day):
     """Captures with a short snapshot length: a survey says why there is no connection, or less of one."""
-    connection = Connection("short", 21, (96, 97))
+    connection = day.connection("short", 21, (96, 97))
     whole, capture = capture_of(connection.frames), day.path("short.pcap")
     capture.write_bytes(whole)
     parameters = day.filled_in(capture, 1, connection.values(), "short.toml")
@@ -310,8 +359,8 @@ def fill_in(path, values):
 
 def all_connections(day):
     """All connections of a capture at once, one of which lacks a packet: drafts, audits, and why one is refused."""
-    chance = random.Random("all")
-    connections = [Connection(f"all {n}", 50 + n, (200 + 2 * n, 201 + 2 * n), copies=False) for n in range(40)]
+    chance = random.Random(f"{day.seed} all")
+    connections = [day.connection(f"all {n}", 50 + n, (200 + 2 * n, 201 + 2 * n), copies=False) for n in range(40)]
     capture, folder = day.path("all.pcap"), day.path("all")
     lacking = connections[17].frames
     del lacking[next(place for place in range(len(lacking) // 2, len(lacking)) if is_followed(lacking, place))]
@@ -338,9 +387,93 @@ def is_followed(frames, place):
     return any(frame[26:30] == sender for _, frame in frames[place + 1 :])
 
 
+def in_pcapng(frames):
+    """A pcapng file of frames with their times, in the order of these."""
+    blocks = [pcapng.section("<"), pcapng.interface("<")]
+    for moment, frame in sorted(frames, key=lambda it: it[0]):
+        blocks.append(pcapng.enhanced("<", 0, BEGIN * 1_000_000 + int(moment * 1_000_000), frame))
+    return b"".join(blocks)
+
+
+def rotated_files(day):
+    """A port of ten connections in two files: of those in the second one it is told what the packets show alone."""
+    connections = [day.connection(f"rotated {n}", 100 + n, (300 + 2 * n, 301 + 2 * n)) for n in range(10)]
+    frames = sorted((it for connection in connections for it in connection.frames), key=lambda it: it[0])
+    first, second, whole = (day.path(f"rotated-{name}.pcapng") for name in ("1", "2", "whole"))
+    half = len(frames) // 2
+    for path, part in ((first, frames[:half]), (second, frames[half:]), (whole, frames)):
+        path.write_bytes(in_pcapng(part))
+    folder = day.path("rotated")
+    answer = day.call("draft", whole, "--all", folder)
+    day.expect("ten drafts", answer[0] == 0 and len(answer[1].splitlines()) == 10, answer)
+    for path in folder.glob("*.toml"):
+        fill_in(path, connections[0].values())
+    answer = day.call("audit", whole, folder)
+    day.expect("both files", answer[0] == 0 and "10 connections: 10 explained" in answer[1], answer)
+    answer = day.call("audit", first, folder)
+    day.expect("the first file", answer[0] == 0 and "10 connections: 10 explained" in answer[1], answer)
+    status, text, error = day.call("audit", "--json", second, folder)
+    told = json.loads(text)["connections"]
+    has_counts = all(it["verdict"] == "refused" and it["from_the_middle"] and not it["begins_with_opening"] for it in told)
+    day.expect("the second file", status == 1 and len(told) == 10 and has_counts, (status, text, error))
+    for path in sorted(folder.glob("*.toml")):
+        answer = day.call("explain", second, path)
+        day.expect("its beginning", answer[0] == 1 and is_of_the_middle(answer[1]), answer)
+    status, text, error = day.call("survey", second)
+    begun = text.count("\n  no opening was captured\n") + text.count("\n  opened before the capture began\n")
+    day.expect("ten connections from before", status == 0 and begun == 10, (status, text, error))
+
+
+def is_of_the_middle(text):
+    """Whether a text says that the capture begins in the middle, and not that a packet was overtaken."""
+    causes = text.partition("may be the cause:\n")[2].partition("look next at:\n")[0]
+    counts = re.search(r"client to server: (\d+) of (\d+) captured messages surely taken", text)
+    return "begins in the middle" in causes and "overtaken" not in causes and counts is not None
+
+
+def ends_tapped_apart(day):
+    """Each end on a tap of its own: with one clock they are explained, and with two it is said that these differ."""
+    connection = day.open_connection("taps", 25, (96, 97), copies=False)
+    capture = day.path("taps.pcap")
+    capture.write_bytes(capture_of(connection.frames))
+    parameters = day.filled_in(capture, 1, connection.values(), "taps.toml")
+    answer = day.call("explain", capture, parameters, "--summary")
+    day.expect("one clock", answer[0] == 0 and answer[1].startswith("explained:"), answer)
+    sides = [[it for it in connection.frames if (it[1][29] == 1) == is_client] for is_client in (True, False)]
+    capture.write_bytes(capture_of(sides[0] + [(max(0.0, moment - 5), frame) for moment, frame in sides[1]]))
+    answer = day.call("explain", capture, parameters)
+    day.expect("two clocks", answer[0] == 1 and "two taps whose clocks differ, or files in the wrong order" in answer[1], answer)
+    # The middle of three files stands behind the last one.
+    third = len(connection.frames) // 3
+    first, second, last = (connection.frames[at : at + third] for at in (0, third, 2 * third))
+    capture.write_bytes(capture_of(first) + capture_of(last)[24:] + capture_of(second)[24:])
+    parameters.write_text(re.sub(r"(?m)^last_record = \d+", f"last_record = {3 * third}", parameters.read_text()))
+    answer = day.call("explain", capture, parameters)
+    day.expect("files in the wrong order", answer[0] == 1 and f"times of records fall, first in record {2 * third + 1}" in answer[1], answer)
+
+
+def loop(day):
+    """Each packet comes once more, three seconds later: copies end no silence, and open nothing."""
+    connection = day.open_connection("loop", 27, (96, 97))
+    later = [(moment + 3, frame) for moment, frame in connection.frames]
+    capture = day.path("loop.pcap")
+    capture.write_bytes(capture_of(connection.frames + later))
+    parameters = day.filled_in(capture, 1, connection.values(), "loop.toml")
+    status, text, error = day.call("explain", capture, parameters)
+    day.expect("explained", status == 0 and text.startswith("explained:"), (status, text, error))
+    silences = re.findall(r"longest silence of the .* to the end of the (?:capture|window)", text)
+    day.expect("copies end no silence", len(silences) == 2, (status, text, error))
+    # Behind the opening, so that its late copy is the first that is captured of it.
+    opening = max(moment for moment, _ in connection.frames[:3])
+    cut = [it for it in connection.frames if it[0] > opening]
+    capture.write_bytes(capture_of(cut + later))
+    answer = day.call("survey", capture)
+    day.expect("one connection", answer[1].count("\nconnection ") == 1 and "opened before the capture began" in answer[1], answer)
+
+
 def mistakes(day):
     """What is mistyped leads on."""
-    connection = Connection("mistakes", 17, (96, 97))
+    connection = day.connection("mistakes", 17, (96, 97))
     capture = day.path("mistakes.pcap")
     capture.write_bytes(capture_of(connection.frames))
     parameters = day.filled_in(capture, 1, connection.values(), "mistakes.toml")
@@ -363,19 +496,24 @@ def main():
     asked = argparse.ArgumentParser(description="A day with captures that aren't known.")
     asked.add_argument("--seatmelon", type=pathlib.Path, default=SEATMELON)
     asked.add_argument("--packets", type=int, default=400_000)
+    asked.add_argument("--seed", default="1")
     asked.add_argument("--keep", type=pathlib.Path, help="a folder in which the captures stay")
     asked = asked.parse_args()
     with tempfile.TemporaryDirectory() as folder:
         folder = asked.keep or pathlib.Path(folder)
         folder.mkdir(parents=True, exist_ok=True)
-        day = Day(str(asked.seatmelon.resolve()), folder)
+        day = Day(str(asked.seatmelon.resolve()), folder, asked.seed)
         day.task("a whole port", lambda: whole_port(day))
         day.task("start words of its own", lambda: start_words(day))
         day.task("a missing packet", lambda: missing_packet(day))
         day.task("many packets", lambda: many_packets(day, asked.packets))
         day.task("frames of another link type", lambda: other_frames(day))
+        day.task("captures of Linux's any", lambda: captures_of_any(day))
         day.task("a capture with a short snapshot length", lambda: short_snapshots(day))
         day.task("all connections", lambda: all_connections(day))
+        day.task("a port in two files", lambda: rotated_files(day))
+        day.task("ends that were tapped apart", lambda: ends_tapped_apart(day))
+        day.task("a loop", lambda: loop(day))
         day.task("mistakes", lambda: mistakes(day))
     return day.wrong > 0
 

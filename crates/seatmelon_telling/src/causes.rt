@@ -5,7 +5,7 @@ ghost use Rattle.rasta_pcap.specs.Fault.{write_failed};
 
 use rasta_build::Rule;
 use rasta_pcap::{Fault, Sink};
-use seatmelon_account::{Account, Refusal, Subject};
+use seatmelon_account::{Account, Refusal, Subject, Trouble};
 use seatmelon_reading::{ChannelCount, Sighting};
 use seatmelon_text::{Part, parts, write_parts, write_words};
 
@@ -27,7 +27,7 @@ enum Cause {
         fullest: u64,
     },
 
-    // A record before the refused one has a time below that of the record before it.
+    // A record has a time below that of the record before it.
     Falling {
         record: u32,
     },
@@ -156,10 +156,25 @@ fn early_cause(refusal: &Refusal<'_>) -> Option<Cause> {
     }
 }
 
-// The first record whose time falls, if it is no later than the refused one.
-fn falling_cause(account: &Account<'_>, refused: u32) -> Option<Cause> {
+// The record in which the number that was due crosses later, if a refusal speaks of that.
+fn late_record(refusal: &Refusal<'_>) -> Option<u32> {
+    let Subject::Record {
+        packet: Some(packet),
+        ..
+    } = &refusal.subject
+    else {
+        return None;
+    };
+    match &packet.trouble {
+        Trouble::Gap(Some(gap)) => Some(gap.later.as_ref()?.record),
+        _ => None,
+    }
+}
+
+// The first record whose time falls, if it is no later than the refused one, or than that of the number that was due.
+fn falling_cause(account: &Account<'_>, refusal: &Refusal<'_>, refused: u32) -> Option<Cause> {
     let record = account.times.falling.first?;
-    if record <= refused {
+    if record <= late_record(refusal).unwrap_or(refused) {
         Some(Cause::Falling { record })
     } else {
         None
@@ -262,15 +277,15 @@ fn write_channels<W: Sink>(
     Ok(is_any)
 }
 
-// The causes beside those of channels: times that fall no later than the refused packet, a confirmation that comes too
-// early, and a beginning in the middle.
+// The causes beside those of channels: times that fall no later than the refused packet or than the one that was due, a
+// confirmation that comes too early, and a beginning in the middle.
 fn further_causes(
     account: &Account<'_>,
     refusal: &Refusal<'_>,
     refused: u32,
 ) -> [Option<Cause>; 3] {
     [
-        falling_cause(account, refused),
+        falling_cause(account, refusal, refused),
         early_cause(refusal),
         middle_cause(account, refusal),
     ]

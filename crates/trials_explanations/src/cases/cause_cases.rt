@@ -29,7 +29,20 @@ up to there:
     client to server: 0 of 0 messages surely taken
     server to client: 0 of 0 messages surely taken
     with last_record = 2 in the parameters, that is told whole
-== data plain: 0 1 3 2 | 240=9 |  | plain |  | Times fall behind the refused record alone.
+== data plain: 0 1 3 2 | 240=9 |  | plain |  | The record of the number that was due is earlier.
+  on channel 2 no packet was captured: one of its addresses in the parameters is wrong, or its tap is missing
+  times fall, first in record 4: files in the wrong order, or taps whose clocks differ
+  the packet that was due was overtaken before it reached the tap
+look next at:
+  the packets of this end around the missing number, with seatmelon show; if the tap may have missed
+  PDUs, what --suppose N says; behind the gap the capture can be explained from a quiet point, of
+  which seatmelon draft CAPTURE N --after RECORD PARAMS proposes some
+up to there:
+  the 2 packets before it are explained by themselves:
+    client to server: 0 of 0 messages surely taken
+    server to client: 0 of 0 messages surely taken
+    with last_record = 2 in the parameters, that is told whole
+== data plain: 0 1 3 2 4 | 340=9 |  | plain |  | Times fall behind that record alone.
   on channel 2 no packet was captured: one of its addresses in the parameters is wrong, or its tap is missing
   the packet that was due was overtaken before it reached the tap
 look next at:
