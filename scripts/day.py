@@ -32,7 +32,7 @@ SEATMELON = rows.TOP / "crates/seatmelon/out/seatmelon"
 WORDS = (0x0F1E2D3C, 0x4B5A6978, 0x8796A5B4, 0xC3D2E1F0)
 MD4_WORDS = (0x67452301, 0xEFCDAB89, 0x98BADCFE, 0x10325476)
 BEGIN = 1_767_225_600  # 2026-01-01
-DISCONNECTION_REQUEST = 6216
+OPENING, DISCONNECTION_REQUEST = (6200, 6201), 6216
 
 
 # ---- captures
@@ -223,7 +223,7 @@ def start_words(day):
 
 def missing_packet(day):
     """A packet in the middle never reached the tap: what stands before the gap and behind it is explained apart."""
-    connection = day.connection("missing", 11, (96, 97), packets=400, copies=False)
+    connection = day.open_connection("missing", 11, (96, 97), packets=400, copies=False)
     capture = day.path("missing.pcap")
     for place in range(120, 300):
         frames = connection.frames[:place] + connection.frames[place + 1 :]
@@ -231,7 +231,7 @@ def missing_packet(day):
         parameters = day.filled_in(capture, 1, connection.values(), "missing.toml")
         status, text, error = day.call("explain", capture, parameters)
         gap = re.search(r"refused by 28 NumberGap.*?^record (\d+),", text, re.S | re.M)
-        if gap and "both numbers skip 1" in text:
+        if gap and "both numbers skip 1" in text and day.call("draft", capture, 1, "--after", gap.group(1))[0] == 0:
             break
     day.expect("refused at the gap", bool(gap), (status, text, error))
     day.commands, day.seconds = 2, 0.0
@@ -449,7 +449,7 @@ def ends_tapped_apart(day):
     capture.write_bytes(capture_of(first) + capture_of(last)[24:] + capture_of(second)[24:])
     parameters.write_text(re.sub(r"(?m)^last_record = \d+", f"last_record = {3 * third}", parameters.read_text()))
     answer = day.call("explain", capture, parameters)
-    day.expect("files in the wrong order", answer[0] == 1 and f"times of records fall, first in record {2 * third + 1}" in answer[1], answer)
+    day.expect("files in the wrong order", answer[0] == 1 and f"times fall, first in record {2 * third + 1}: files in the wrong order" in answer[1], answer)
 
 
 def loop(day):
@@ -464,7 +464,7 @@ def loop(day):
     silences = re.findall(r"longest silence of the .* to the end of the (?:capture|window)", text)
     day.expect("copies end no silence", len(silences) == 2, (status, text, error))
     # Behind the opening, so that its late copy is the first that is captured of it.
-    opening = max(moment for moment, _ in connection.frames[:3])
+    opening = max(moment for moment, frame in connection.frames if kind_of(frame) in OPENING)
     cut = [it for it in connection.frames if it[0] > opening]
     capture.write_bytes(capture_of(cut + later))
     answer = day.call("survey", capture)
