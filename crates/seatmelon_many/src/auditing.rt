@@ -158,6 +158,24 @@ where
     })
 }
 
+// Audits them in what is read for this form.
+fn audit_as<S: Source>(
+    alloc: Global,
+    form: Form,
+    params: &[Params],
+    source: S,
+) -> Result<FileAudit, Fault>
+where
+    S: Drop,
+    requires { length params.now < 2 ^ 32 }
+    ensures { IfSome (S.remaining source) (λ file. IfOk result (λ a. AreAudits params.now (capture_of file) a.audit)) }
+{
+    match form {
+        Form::Text => audit_file(alloc, params, source),
+        Form::Json => audit_summed(alloc, params, source),
+    }
+}
+
 /// Audits the connections with these parameters, whose files are named, in one reading of the file that a reader gives,
 /// and writes that to a device, all of it. Nothing is written before the file is at its end.
 pub fn audit_of<D: Read + Drop, W: Write + Drop>(
@@ -173,10 +191,7 @@ pub fn audit_of<D: Read + Drop, W: Write + Drop>(
     ensures err { IfErr result (λ failure. status_of failure ≡ 3) }
 {
     let mut source = Counted::new(Watched::new(file));
-    let audited = match auditing.form {
-        Form::Text => audit_file(alloc, params, &mut source),
-        Form::Json => audit_summed(alloc, params, &mut source),
-    };
+    let audited = audit_as(alloc, auditing.form, params, &mut source);
     let reader = source.into_inner();
     match audited {
         Ok(file) => {
