@@ -69,35 +69,42 @@ enum Page {
     Json { capture_sum: [u8; 32] },
 }
 
-// An audit, the format of the file, and what the audit is written as.
+// How an audit is told: the format of the file, and what it is written as.
+#[derive(Clone, Copy)]
+struct Telling {
+    format: Format,
+    page: Page,
+}
+
+// An audit, and how it is told.
 #[derive(Drop)]
 struct FileAudit {
     audit: Audit,
-    format: Format,
-    page: Page,
+    telling: Telling,
 }
 
 // Writes an audit to a device, all of it.
 fn write_to<W: Write + Drop>(
     alloc: Global,
     capture: &str,
-    parameters: &Named<'_>,
-    file: &FileAudit,
+    named: &Named<'_>,
+    audit: &Audit,
+    telling: Telling,
     device: W,
 ) -> Result<(), Failure>
     ensures { IfErr result (λ failure. status_of failure ≡ 3) }
 {
     let mut output = output_to(alloc, device)?;
-    let written = match file.page {
-        Page::Text => write_audit(&mut output, parameters.names, &file.audit, file.format),
+    let written = match telling.page {
+        Page::Text => write_audit(&mut output, named.names, audit, telling.format),
         Page::Json { capture_sum } => {
             let inputs = Inputs {
                 capture,
                 capture_sum,
-                names: parameters.names,
-                sums: parameters.sums,
+                names: named.names,
+                sums: named.sums,
             };
-            write_audit_json(&mut output, &inputs, &file.audit, file.format)
+            write_audit_json(&mut output, &inputs, audit, telling.format)
         }
     };
     finish(alloc, STANDARD_OUTPUT, output, written)
@@ -130,11 +137,11 @@ where
 {
     let mut capture = Capture::open(alloc, source)?;
     let audit = audit_opened(alloc, params, &mut capture)?;
-    Ok(FileAudit {
-        audit,
+    let telling = Telling {
         format: capture.format(),
         page: Page::Text,
-    })
+    };
+    Ok(FileAudit { audit, telling })
 }
 
 // Audits them in the same way, and sums up the file, which is read to its end.
@@ -149,13 +156,10 @@ where
     let format = capture.format();
     let mut summed = capture.into_inner();
     drain(&mut summed)?;
-    Ok(FileAudit {
-        audit,
-        format,
-        page: Page::Json {
-            capture_sum: summed.into_digest(),
-        },
-    })
+    let capture_sum = summed.into_digest();
+    let page = Page::Json { capture_sum };
+    let telling = Telling { format, page };
+    Ok(FileAudit { audit, telling })
 }
 
 // Audits them in what is read for this form.
@@ -194,10 +198,10 @@ pub fn audit_of<D: Read + Drop, W: Write + Drop>(
     let audited = audit_as(alloc, auditing.form, params, &mut source);
     let reader = source.into_inner();
     match audited {
-        Ok(file) => {
-            write_to(alloc, auditing.capture, named, &file, device)?;
+        Ok(FileAudit { audit, telling }) => {
+            write_to(alloc, auditing.capture, named, &audit, telling, device)?;
             Ok(Audited {
-                audit: file.audit,
+                audit,
                 kind: kind_of_start(reader.start()),
             })
         }
