@@ -122,7 +122,7 @@ fn is_audited<D: Read + Drop>(alloc: Global, file: D, text: &str) -> Option<bool
 const TWO_AUDITS: &str =
     "1 p: explained, 1 packet; client to server: 0 of 0 messages surely taken; server to client: 0 of 0\n\
     q: refused by 26 Ids, record 1, 1970-01-01 00:00:00.000000 UTC, client; \
-    client to server: 0 of 0 captured messages surely taken; server to client: 0 of 0, whatever was missed\n\
+    client to server: 0 of 0 captured messages surely taken; server to client: 0 of 0, by 1 packet, whatever was missed\n\
     2 connections: 1 explained, 1 refused; 1 packet; 0 records of none of these connections\n";
 
 // Whether two connections of the one request are audited so, in one piece and in pieces.
