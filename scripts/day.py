@@ -14,6 +14,7 @@ them in. `rt run` in crates/seatmelon leaves the program. Plain Python 3, no oth
 """
 
 import argparse
+import itertools
 import json
 import pathlib
 import random
@@ -223,15 +224,17 @@ def start_words(day):
 
 def missing_packet(day):
     """A packet in the middle never reached the tap: what stands before the gap and behind it is explained apart."""
-    connection = day.open_connection("missing", 11, (96, 97), packets=400, copies=False)
+    connections = (day.open_connection(f"missing {n}", 11, (96, 97), packets=400, copies=False) for n in range(20))
     capture = day.path("missing.pcap")
-    for place in range(120, 300):
+    for connection, place in itertools.product(connections, range(120, 300, 4)):
         frames = connection.frames[:place] + connection.frames[place + 1 :]
         capture.write_bytes(capture_of(frames))
         parameters = day.filled_in(capture, 1, connection.values(), "missing.toml")
         status, text, error = day.call("explain", capture, parameters)
         gap = re.search(r"refused by 28 NumberGap.*?^record (\d+),", text, re.S | re.M)
-        if gap and "both numbers skip 1" in text and day.call("draft", capture, 1, "--after", gap.group(1))[0] == 0:
+        # Not behind each gap both ends come to rest.
+        is_clear = "both numbers skip 1" in text and "before it are explained by themselves" in text
+        if gap and is_clear and day.call("draft", capture, 1, "--after", gap.group(1))[0] == 0:
             break
     day.expect("refused at the gap", bool(gap), (status, text, error))
     day.commands, day.seconds = 2, 0.0
@@ -421,7 +424,9 @@ def rotated_files(day):
         day.expect("its beginning", answer[0] == 1 and is_of_the_middle(answer[1]), answer)
     status, text, error = day.call("survey", second)
     begun = text.count("\n  no opening was captured\n") + text.count("\n  opened before the capture began\n")
-    day.expect("ten connections from before", status == 0 and begun == 10, (status, text, error))
+    behind = [next((frame for moment, frame in connection.frames if moment >= frames[half][0]), None) for connection in connections]
+    from_before = sum(frame is not None and kind_of(frame) != OPENING[0] for frame in behind)
+    day.expect("connections from before", status == 0 and begun == from_before, (status, from_before, text, error))
 
 
 def is_of_the_middle(text):
@@ -463,9 +468,8 @@ def loop(day):
     day.expect("explained", status == 0 and text.startswith("explained:"), (status, text, error))
     silences = re.findall(r"longest silence of the .* to the end of the (?:capture|window)", text)
     day.expect("copies end no silence", len(silences) == 2, (status, text, error))
-    # Behind the opening, so that its late copy is the first that is captured of it.
-    opening = max(moment for moment, frame in connection.frames if kind_of(frame) in OPENING)
-    cut = [it for it in connection.frames if it[0] > opening]
+    # Without the opening, so that its late copies are the first that are captured of it.
+    cut = [it for it in connection.frames if kind_of(it[1]) not in OPENING]
     capture.write_bytes(capture_of(cut + later))
     answer = day.call("survey", capture)
     day.expect("one connection", answer[1].count("\nconnection ") == 1 and "opened before the capture began" in answer[1], answer)
