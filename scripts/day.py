@@ -3,14 +3,40 @@
 
     day.py [--seatmelon PATH] [--packets N] [--seed WORD] [--keep FOLDER]
 
-The captures are made by the ends of random_runs.py over a calm network, others for each seed: a whole port with five
-connections, copies of an opening and strangers between them; one with start words of its own; one in which a packet is
-missing; one with many packets (400,000); some with other link types, and some of Linux's `any`; some with a short
-snapshot length; one of forty connections, of which one lacks a packet; a port of ten connections in two rotated pcapng
-files; a connection whose two ends were tapped apart; and a loop, in which each packet comes once more. Prints for each
-task its commands and the seconds that they took; a task that doesn't come out as it should is named, and the status is 1.
-Parameters come from drafts, with the values of the 'engineering data' in place of placeholders, as a person would fill
-them in. `rt run` in crates/seatmelon leaves the program. Plain Python 3, no other packages.
+The captures are made by the ends of random_runs.py over a calm network, others for each seed. The tasks, with how many
+commands each takes, and what leads on:
+
+- A port with five connections, copies of an opening and strangers between them (11): `survey` lists five connections;
+  for each `draft CAPTURE N`, its values from the engineering data, and `explain CAPTURE PARAMS --summary`, whose first
+  three lines are the verdict and both counts.
+- Start words that the draft can't know (5): `explain` says that none of the codes fits the recorded ones, and
+  `show --types data` lists the packets all the same; with the right ones `explain` explains them.
+- A packet is missing in the middle (5): `explain` names the record and the packet before the gap, and that both numbers
+  skip one; it says whether what stands before is explained, and by which `last_record`, and two commands explain what
+  stands behind.
+- 400,000 packets (3): `explain --summary` has 40 lines, and `--not-shown` those messages alone that weren't shown to be
+  taken.
+- Frames of another link type (16): `survey`, `draft`, `show` and `explain` name it, and what to do.
+- Captures of Linux's `any` (14): of classic files `audit` names `seatmelon convert CAPTURE > OUT`, and its answer on
+  what that writes is the one on the Ethernet frames; of pcapng files it is the same as they are.
+- A short snapshot length (7): `survey` counts the datagrams that were captured cut, of each connection, or names the
+  ends that only they show; `explain` names the snapshot length beside the first of them (15).
+- Forty connections at once, one of which lacks a packet (4): `draft CAPTURE --all FOLDER` writes a parameter file for
+  each, into which a script puts the engineering data; `audit CAPTURE FOLDER` says that 39 are explained and one is
+  refused (28), and `explain` of that one that both its numbers skip 1.
+- A port of ten connections in two rotated pcapng files (15): of the second file `audit` tells for each connection what
+  was surely taken whatever came before, and `explain` that the capture begins in the middle; `survey` says of ten
+  connections that they were opened before.
+- Two ends that were tapped apart (4): `explain` names two clocks that differ by an SN that is confirmed before it
+  crosses, and files in the wrong order by times that fall.
+- A loop, in which each packet comes once more, three seconds later (3): copies end no silence, and behind the opening
+  `survey` says `opened before the capture began`.
+- Mistakes (5): a key that no parameter file has, a record that isn't there, client and server exchanged, and a capture
+  in place of a parameter file are each named.
+
+Prints for each task its commands and the seconds that they took; a task that doesn't come out as it should is named, and
+the status is 1. Parameters come from drafts, with the values of the 'engineering data' in place of placeholders, as a
+person would fill them in. `rt run` in crates/seatmelon leaves the program. Plain Python 3, no other packages.
 """
 
 import argparse
@@ -297,7 +323,8 @@ def cooked(number, frame):
 
 
 def captures_of_any(day):
-    """Captures of Linux's `any`: one command makes Ethernet frames of them, and the answers are those of the frames."""
+    """Captures of Linux's `any`: the answers are those of the Ethernet frames that one command makes of a classic file,
+    and that are read in a pcapng file."""
     connection = day.connection("any", 23, (96, 97))
     ethernet, capture = capture_of(connection.frames), day.path("any.pcap")
     capture.write_bytes(ethernet)
@@ -314,6 +341,27 @@ def captures_of_any(day):
         day.expect("converted", ran.returncode == 0 and is_told, (ran.returncode, "", ran.stderr))
         answer = day.call("audit", day.path("converted.pcap"), parameters)
         day.expect("the same answer", answer == whole and answer[0] == 0, answer)
+        pcapng_of_any(day, connection, number, parameters)
+
+
+def pcapng_of_any(day, connection, number, parameters):
+    """The same packets in a pcapng file of this link type."""
+    capture = day.path("any.pcapng")
+    capture.write_bytes(in_pcapng(connection.frames, number, lambda frame: cooked(number, frame)))
+    told = f"an interface of this file has link type {number} ("
+    counts = day.call("audit", day.path("converted.pcap"), parameters)
+    answer = day.call("audit", capture, parameters)
+    is_same = answer[1].endswith(counts[1]) and answer[1].startswith(told)
+    day.expect("read as frames", answer[0] == 0 and is_same, answer)
+    answer = day.call("explain", capture, parameters)
+    words = f"read as pcapng; an interface of it has link type {number} ("
+    day.expect("explained as frames", answer[0] == 0 and words in answer[1], answer)
+    with day.path("converted.pcap").open("wb") as out:
+        ran = subprocess.run([day.program, "convert", str(capture)], stdout=out, stderr=subprocess.PIPE, text=True)
+    is_told = f"packets of link type {number} (" in ran.stderr and "were written as Ethernet frames" in ran.stderr
+    day.expect("converted", ran.returncode == 0 and is_told, (ran.returncode, "", ran.stderr))
+    answer = day.call("audit", day.path("converted.pcap"), parameters)
+    day.expect("the same answer again", answer == counts, answer)
 
 
 def cut_to(capture, length):
@@ -390,11 +438,11 @@ def is_followed(frames, place):
     return any(frame[26:30] == sender for _, frame in frames[place + 1 :])
 
 
-def in_pcapng(frames):
-    """A pcapng file of frames with their times, in the order of these."""
-    blocks = [pcapng.section("<"), pcapng.interface("<")]
+def in_pcapng(frames, link_type=pcapng.ETHERNET, spelled=bytes):
+    """A pcapng file of frames with their times, in the order of these, each as it is spelled for this link type."""
+    blocks = [pcapng.section("<"), pcapng.interface("<", link_type)]
     for moment, frame in sorted(frames, key=lambda it: it[0]):
-        blocks.append(pcapng.enhanced("<", 0, BEGIN * 1_000_000 + int(moment * 1_000_000), frame))
+        blocks.append(pcapng.enhanced("<", 0, BEGIN * 1_000_000 + int(moment * 1_000_000), spelled(frame)))
     return b"".join(blocks)
 
 

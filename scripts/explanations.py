@@ -1,5 +1,5 @@
 #!/usr/bin/env python3
-"""Runs `seatmelon` as its user would, and compares what it prints with what docs/FORMATS.md says.
+"""Runs `seatmelon` as its user would, and compares what it prints with what docs/SEATMELON.md says.
 
     explanations.py [--program PATH] [PART..]
 

@@ -215,7 +215,7 @@ def plain(text, path, copy):
     text = text.replace(str(path), "FILE").replace(str(copy), "FILE")
     text = re.sub(r"(capture: FILE\n    SHA-256: )[0-9a-f]{64}\n(    read as pcapng.*\n)?", r"\1SUM\n", text)
     text = re.sub(r'("name":"FILE","sha256":")[0-9a-f]{64}"(,"format":"pcapng")?', r'\1SUM"', text)
-    return re.sub(r',"other_link_type":\d+', "", re.sub(r"(?m)^an interface of this file has link type .*\n", "", text))
+    return re.sub(r',"(other|cooked)_link_type":\d+', "", re.sub(r"(?m)^an interface of this file has link type .*\n", "", text))
 
 
 def untimed(text):
@@ -240,7 +240,7 @@ def has_others(path):
 
 def tells_others(text):
     """Whether a text names a link type other than that of Ethernet."""
-    return bool(re.search(r'interface of (this file|it) has link type \d|"other_link_type":\d', text))
+    return bool(re.search(r'interface of (this file|it) has link type \d|"(other|cooked)_link_type":\d', text))
 
 
 def same_texts(part, path, copy, parameters):

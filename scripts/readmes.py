@@ -7,9 +7,8 @@ The example of a crate is the first ```rust block of crates/NAME/README.md: whol
 they need, so that it is a module as it stands. All of them become one program in a copy of the repository, on which one
 `rt try` is run. Nothing is proved by that. It takes a minute and a half of one processor; with `--names` it is left out.
 
-Each file of a crate's specs/ that has definitions must be named in its README, each module of the product once in
-docs/ARCHITECTURE.md, behind the bold name of its crate, and each relative link of a page (*.md) must lead to a file or
-a folder, and to a heading where it names one. Prints what is wrong; the last line counts the
+Each file of a crate's specs/ that has definitions must be named in its README, and each relative link of a page (*.md)
+must lead to a file or a folder, and to a heading where it names one. Prints what is wrong; the last line counts the
 examples, and the status is 1 if anything is wrong. Plain Python 3, no other packages.
 """
 import re
@@ -80,29 +79,6 @@ def names_missing():
                 yield f"{page.relative_to(TOP)}: doesn't name specs/{file.relative_to(specs)}"
 
 
-def is_product(crate):
-    return not crate.startswith("trials_") and crate != "seatmelon_workloads"
-
-
-def modules(crate):
-    """The modules of a crate, but for its root and its tests."""
-    found = {file.stem for file in (CRATES / crate / "src").rglob("*.rt") if "tests" not in file.parts}
-    return {name for name in found - {"lib", "tests"} if not name.endswith("_tests")}
-
-
-def modules_missed():
-    """The modules of the product that docs/ARCHITECTURE.md doesn't name once behind their crate."""
-    named, here = [], None
-    for crate, word in re.findall(r"\*\*`(\w+)`\*\*|`(\w+)`", (TOP / "docs/ARCHITECTURE.md").read_text()):
-        here = crate or here
-        named.append((here, word))
-    for folder in sorted(CRATES.iterdir()):
-        for module in sorted(modules(folder.name)) if is_product(folder.name) else []:
-            times = named.count((folder.name, module))
-            if times != 1:
-                yield f"docs/ARCHITECTURE.md: names {folder.name}::{module} {times} times"
-
-
 def headings(page):
     """The anchors of a page, as its headings give them."""
     found = set()
@@ -130,7 +106,7 @@ def links_lost():
 
 
 def main():
-    lost = [*names_missing(), *modules_missed(), *links_lost()]
+    lost = [*names_missing(), *links_lost()]
     for line in lost:
         print(line)
     if "--names" in sys.argv[1:]:

@@ -8,6 +8,6 @@ mod keeping;
 mod link_type;
 
 pub use header::{FileHeader, header_in};
-pub use interface_type::write_other_link_type;
+pub use interface_type::{AS_ETHERNET, write_link_types};
 pub use keeping::Keeping;
 pub use link_type::link_type_name;

@@ -5,7 +5,7 @@ use Rattle.seatmelon_pcapng.specs.Giving.{told_as}
 use Rattle.seatmelon_pcapng.specs.Peeked.{begins_pcapng}
 use Rattle.seatmelon_pcapng.specs.declared.capture.Capture.{Capture}
 use Rattle.seatmelon_pcapng.specs.declared.capture.Capture.TheVariants.{Plain, Converted}
-use Rattle.seatmelon_pcapng.proofs.Formats.{capture-other, capture-refused}
+use Rattle.seatmelon_pcapng.proofs.Formats.{capture-cooked, capture-other, capture-refused}
 use Rattle.seatmelon_pcapng.proofs.Gives.{told_apart}
 use Rattle.seatmelon_commands.specs.Formats.{FormatFits}
 
@@ -20,4 +20,5 @@ module _ {S : Type 0} (remaining : S → Option (List ℕ)) (notes : S → List 
     format_is c file given h,
     λ refusal. capture-refused remaining notes c file given refusal h,
     λ link_type. capture-other remaining notes c file given link_type h,
+    λ link_type. capture-cooked remaining notes c file given link_type h,
   )

@@ -11,7 +11,8 @@ use crate::output::{STANDARD_OUTPUT, failed, finish, output_to};
 use crate::reading::{BUFFER, STANDARD_INPUT, unread};
 use crate::watched::Watched;
 use rasta_pcap::{Counted, Fault, Sink, Source, write_all};
-use seatmelon_cooked::{Frames, Kind, write_ethernet};
+use seatmelon_capture::link_type_name;
+use seatmelon_cooked::{Frames, write_ethernet};
 use seatmelon_pcapng::{Capture, Format, Peeked, Refusal};
 use std::alloc::Global;
 use std::fs::File;
@@ -184,7 +185,16 @@ fn tell_refusal<R: Eprint>(rt: &R, path: &str, refusal: Refusal) {
     );
 }
 
-/// What standard error is told of packets that got headers of Ethernet.
+// Writes of packets of which link type something is told.
+fn write_packets<W: fmt::Write>(link_type: u16, f: &mut fmt::Formatter<W>) -> fmt::Result {
+    write!(f, "packets of link type {link_type}")?;
+    match link_type_name(link_type) {
+        Some(name) => write!(f, " ({name})"),
+        None => Ok(()),
+    }
+}
+
+/// What standard error is told of packets of a classic file that got headers of Ethernet.
 #[derive(Clone, Copy)]
 pub struct FramesTold(pub Frames);
 
@@ -209,16 +219,27 @@ impl fmt::Display for FramesTold {
             nameless,
             ..
         } = self.0;
-        let (number, name) = match kind {
-            Kind::Sll => (113, "Linux cooked capture"),
-            Kind::Sll2 => (276, "Linux cooked capture v2"),
-        };
+        write_packets(kind.link_type(), f)?;
         write!(
             f,
-            "packets of link type {number} ({name}) that got Ethernet headers: {written}; the receiver's address is \
-             zeros in all of them, the sender's in {nameless}"
+            " that got Ethernet headers: {written}; the receiver's address is zeros in all of them, the sender's in {nameless}"
         )?;
         self.write_left_out(f)
+    }
+}
+
+/// What standard error is told of packets of a pcapng file that got headers of Ethernet: the link type of the first of
+/// them.
+#[derive(Clone, Copy)]
+pub struct CookedTold(pub u16);
+
+impl fmt::Display for CookedTold {
+    fn fmt<W: fmt::Write>(&self, f: &mut fmt::Formatter<W>) -> fmt::Result {
+        write_packets(self.0, f)?;
+        write!(
+            f,
+            " were written as Ethernet frames, with zeros for addresses that they lack"
+        )
     }
 }
 
@@ -244,6 +265,9 @@ pub fn convert_file<R: AllocGlobal + Files + Input + Print + Eprint>(
     if let Some(frames) = frames {
         // Where standard error fails too, the capture is written all the same.
         let _ = eprintln!(rt; "seatmelon: {path}: {}", FramesTold(frames));
+    }
+    if let Some(link_type) = format.cooked_link_type() {
+        let _ = eprintln!(rt; "seatmelon: {path}: {}", CookedTold(link_type));
     }
     if let Some(refusal) = format.refusal() {
         tell_refusal(rt, path, refusal);

@@ -22,8 +22,8 @@ mod watched;
 pub use answer::{Answer, Draft, write_answer};
 pub use certificate::{Mistaken, judge_certificate};
 pub use converting::{
-    Conversion, FramesTold, conversion_of, convert, convert_file, convert_of, convert_to_ethernet,
-    status_of_format,
+    Conversion, CookedTold, FramesTold, conversion_of, convert, convert_file, convert_of,
+    convert_to_ethernet, status_of_format,
 };
 pub use drafting::{After, Drafting, draft_file, draft_in, tell_fault, with_params};
 pub use explaining::{

@@ -1,4 +1,5 @@
 pub mod Copied
 pub mod Files
+pub mod FrameLengths
 pub mod Records
 pub mod Ways

@@ -29,6 +29,11 @@ order_of file =
 abbrev pub kind_of : ℕ → Option Kind
 kind_of link_type = if link_type == 113 then Some Sll else if link_type == 276 then Some Sll2 else None
 
+-- the link type of frames that have it
+abbrev pub link_type_of : Kind → ℕ
+link_type_of Sll = 113
+link_type_of Sll2 = 276
+
 abbrev pub formed : Order → Option Kind → Option Form
 formed order None = None
 formed order (Some kind) = Some (record { order = order; kind = kind })

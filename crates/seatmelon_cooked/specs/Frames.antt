@@ -38,10 +38,13 @@ no_address = 0 ∷ 0 ∷ 0 ∷ 0 ∷ 0 ∷ 0 ∷ []
 abbrev pub sender_in : Kind → List ℕ → List ℕ
 sender_in kind packet = if address_length_in kind packet == 6 then address_in kind packet else no_address
 
--- the frame: no receiver is known
+-- the header of the frame: no receiver is known
+abbrev pub frame_header : Kind → List ℕ → List ℕ
+frame_header kind packet = no_address ++ (sender_in kind packet ++ protocol_in kind packet)
+
+-- the frame
 abbrev pub ethernet_frame : Kind → List ℕ → List ℕ
-ethernet_frame kind packet =
-    no_address ++ (sender_in kind packet ++ (protocol_in kind packet ++ drop (header_length kind) packet))
+ethernet_frame kind packet = frame_header kind packet ++ drop (header_length kind) packet
 
 -- a packet that was captured cut inside its header has no frame
 abbrev pub frame_of : Kind → List ℕ → List ℕ

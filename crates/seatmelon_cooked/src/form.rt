@@ -29,16 +29,27 @@ pub struct Form {
 }
 
 impl Kind {
-    ghost use Rattle.seatmelon_cooked.specs.Forms.{kind_of};
+    ghost use Rattle.seatmelon_cooked.specs.Forms.{kind_of, link_type_of};
     ghost use Rattle.seatmelon_cooked.specs.Frames.{excess, header_length};
 
-    fn of(link_type: u32) -> Option<Kind>
+    /// That of packets of a link type, if they have any.
+    pub fn of(link_type: u32) -> Option<Kind>
         ensures { result ≡ kind_of link_type }
     {
         match link_type {
             113 => Some(Kind::Sll),
             276 => Some(Kind::Sll2),
             _ => None,
+        }
+    }
+
+    /// The link type of packets that have it.
+    pub fn link_type(self) -> u16
+        ensures { result ≡ link_type_of self }
+    {
+        match self {
+            Kind::Sll => 113,
+            Kind::Sll2 => 276,
         }
     }
 

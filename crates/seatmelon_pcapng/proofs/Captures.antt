@@ -11,10 +11,13 @@ use Rattle.rasta_pcap.specs.Capture.{RecordEntry, IsCapture, IsEntry, IsHeader, 
 use Rattle.rasta_pcap.specs.Fault.{cut_record, fault_at, too_many}
 use Rattle.rasta_pcap.specs.declared.fault.Fault.{Fault}
 use Rattle.rasta_pcap.specs.declared.pcap.Endianness.TheVariants as ends
-use Rattle.seatmelon_pcapng.specs.Blocks.{bounded_by, enhanced_packet, ethernet, front_of, full_turn, has_version, interface_description, most_captured, most_interfaces, obsolete_packet, packet_of, packet_turn, section_header, simple_packet, simple_turn, stamp_in, turn_by, turn_of}
+use Rattle.seatmelon_cooked.specs.declared.form.Kind.{Kind}
+use Rattle.seatmelon_cooked.specs.Forms.{kind_of}
+use Rattle.seatmelon_cooked.proofs.FrameLengths.{frame_of-short}
+use Rattle.seatmelon_pcapng.specs.Blocks.{bounded_by, enhanced_packet, ethernet, front_of, full_turn, has_version, interface_description, most_captured, most_interfaces, obsolete_packet, packet_by, packet_of, packet_turn, packet_with, section_header, simple_packet, simple_turn, stamp_in, turn_by, turn_of}
 use Rattle.seatmelon_pcapng.specs.Moments.{moment_at, no_moment}
 use Rattle.seatmelon_pcapng.specs.Orders.{field}
-use Rattle.seatmelon_pcapng.specs.Readings.{Next, Packet, Reading, State, by_front, by_turn, classic_of, front_bytes, header_bytes, mark_of, next_of, packet_bytes, packet_in, packets_in, read_step, reading_from, reading_of, state_after}
+use Rattle.seatmelon_pcapng.specs.Readings.{Next, Packet, Reading, State, by_front, by_turn, classic_of, cooked_in, front_bytes, header_bytes, mark_of, next_of, packet_bytes, packet_in, packets_in, read_step, reading_from, reading_of, state_after}
 use Rattle.seatmelon_pcapng.specs.Readings.Next.{ended, refused, goes}
 use Rattle.seatmelon_pcapng.specs.declared.block.Found.{Found}
 use Rattle.seatmelon_pcapng.specs.declared.block.Turn.{Turn}
@@ -33,6 +36,7 @@ abbrev IsShort : Turn → Type 0
 IsShort turns.Section = ⊤
 IsShort (turns.Interface i) = ⊤
 IsShort (turns.Packet found) = found.end ≤ found.start + most_captured
+IsShort (turns.Cooked found kind) = found.end ≤ found.start + most_captured
 IsShort (turns.Foreign found link_type) = found.end ≤ found.start + most_captured
 IsShort turns.Other = ⊤
 
@@ -40,11 +44,15 @@ either : (b : Bool) (x y : Result Turn Reason) → IfOk x IsShort → IfOk y IsS
 either true x y h k = h
 either false x y h k = k
 
--- nothing is told of a packet that isn't one of Ethernet
+-- nothing is told of a packet that is neither one of Ethernet nor one with a cooked header
+with-short : (kind : Option Kind) (found : Found) (link_type : ℕ) → found.end ≤ found.start + most_captured → IsShort (packet_with kind link_type found)
+with-short None found link_type h = omega arith
+with-short (Some kind) found link_type h = h
+
 told-short : (is : Bool) (found : Found) (link_type : ℕ) → found.end ≤ found.start + most_captured
-    → IsShort (cond is (turns.Packet found) (turns.Foreign (record found { end = found.start }) link_type))
+    → IsShort (cond is (turns.Packet found) (packet_by link_type found))
 told-short true found link_type h = h
-told-short false found link_type h = omega arith
+told-short false found link_type h = with-short (kind_of link_type) found link_type h
 
 packet_turn-short : (i : Interface) (moment : Moment) (original captured start room : ℕ) → IfOk (packet_turn i moment original captured start room) IsShort
 packet_turn-short i moment original captured start room = either (nat_lt room captured) (Err reasons.CapturedBeyond) _ tt (by (nat_lt most_captured captured) refl)
@@ -111,10 +119,17 @@ packet-few block found h =
     length-take (found.end - found.start) (drop found.start block) in
     omega (arith, size, h)
 
+cooked-few : (block : List ℕ) (found : Found) (kind : Kind) → found.end ≤ found.start + most_captured → HasFew (cooked_in block found kind)
+cooked-few block found kind h =
+    let shorter = frame_of-short kind (slice_range block found.start found.end) in
+    let few = packet-few block found h in
+    omega (arith, shorter, few)
+
 packets_in-few : (block : List ℕ) (turn : Turn) (more : List Packet) → IsShort turn → AllByRecursion HasFew more → AllByRecursion HasFew (packets_in block turn ++ more)
 packets_in-few block turns.Section more h k = k
 packets_in-few block (turns.Interface i) more h k = k
 packets_in-few block (turns.Packet found) more h k = (packet-few block found h, k)
+packets_in-few block (turns.Cooked found kind) more h k = (cooked-few block found kind h, k)
 packets_in-few block (turns.Foreign found link_type) more h k = (packet-few block found h, k)
 packets_in-few block turns.Other more h k = k
 

@@ -4,7 +4,7 @@ use Rattle.std.specs.Io.KnownBytes.{Consumes, IsAtEnd, Keeps, ReadConsumes, prep
 use Rattle.std.proofs.KnownBytes.{Consumes-kept, Consumes-nil, Consumes-trans}
 use Rattle.rasta_pcap.specs.Noting.{NotesOn, given}
 use Rattle.seatmelon_pcapng.specs.Classics as classics
-use Rattle.seatmelon_pcapng.specs.Formats.{Gives, HasGiven, capture_of, format_in, format_of, left_in, noted_by, other_told, refusal_told}
+use Rattle.seatmelon_pcapng.specs.Formats.{Gives, HasGiven, capture_of, cooked_told, format_in, format_of, left_in, noted_by, other_told, refusal_told}
 use Rattle.seatmelon_pcapng.specs.Giving as giving
 use Rattle.seatmelon_pcapng.specs.Giving.{told_as}
 use Rattle.seatmelon_pcapng.specs.Peeked as peeked
@@ -18,7 +18,7 @@ use Rattle.seatmelon_pcapng.specs.declared.peeked.Peeked.{Peeked}
 use Rattle.seatmelon_pcapng.specs.Readings.{classic_of, reading_of, remarks_of}
 use Rattle.seatmelon_pcapng.specs.declared.refusal.Refusal.{Refusal}
 use Rattle.seatmelon_pcapng.specs.declared.remarks.Remarks.{Remarks}
-use Rattle.seatmelon_pcapng.proofs.Gives.{gives-other, gives-refused, gives-remarks, gives-told, told_apart}
+use Rattle.seatmelon_pcapng.proofs.Gives.{gives-cooked, gives-other, gives-refused, gives-remarks, gives-told, told_apart}
 
 -- what a read gave is no longer left
 pub read-consumes : {E : Type 0} (old new : Option (List ℕ)) (r : Result ℕ E) (buf : List ℕ) → ReadConsumes old new r buf → Consumes old new (given r buf)
@@ -152,3 +152,13 @@ module _ {S : Type 0} (remaining : S → Option (List ℕ)) (notes : S → List 
   pub capture-other : (c : Capture S) (file given : List ℕ) (link_type : ℕ) → noted_by remaining notes c (told_as file ++ given)
       → other_told (format_in c) ≡ Some link_type → other_told (format_of file) ≡ Some link_type
   capture-other c file given link_type h = other-met c file given link_type (has_given-told c file given h)
+
+  cooked-met : (c : Capture S) (file given : List ℕ) (link_type : ℕ) → HasGiven remaining notes c file given → cooked_told (format_in c) ≡ Some link_type
+      → cooked_told (format_of file) ≡ Some link_type
+  cooked-met (Plain p) file given link_type h is = absurd cc
+  cooked-met (Converted c) file given link_type h is =
+      ap cooked_told (sym (told-so file true h.1)) ∙ gives-cooked (peeked.left_in remaining) (peeked.noted_by notes) c file given link_type h.0 is
+
+  pub capture-cooked : (c : Capture S) (file given : List ℕ) (link_type : ℕ) → noted_by remaining notes c (told_as file ++ given)
+      → cooked_told (format_in c) ≡ Some link_type → cooked_told (format_of file) ≡ Some link_type
+  capture-cooked c file given link_type h = cooked-met c file given link_type (has_given-told c file given h)

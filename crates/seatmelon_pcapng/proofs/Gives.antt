@@ -11,18 +11,21 @@ use Rattle.byteorder.specs.Numbers.{length-bytes_low_first}
 use Rattle.rasta_pcap.specs.Noting.{NotesOn, PassesOn}
 use Rattle.seatmelon_pcapng.specs.Classics.{Stays, given_by, left_by, left_in, refusal_in, remarks_in, remarks_left, remarks_left_by, remarks_with, rest_in, source_of, state_with}
 use Rattle.seatmelon_pcapng.specs.Giving.{Gives, noted_by, told_as}
+use Rattle.seatmelon_pcapng.specs.LinkTypes.{first_of, no_link_types}
 use Rattle.seatmelon_pcapng.specs.Memory.{bytes_held}
 use Rattle.seatmelon_pcapng.specs.Progress.{refusal_by}
-use Rattle.seatmelon_pcapng.specs.Readings.{Packet, Reading, behind, classic_of, front_bytes, mark_of, packet_bytes, reading_left, reading_of, records_bytes, remarks_of}
-use Rattle.seatmelon_pcapng.specs.Sections.{interfaces_in, order_in, other_met}
+use Rattle.seatmelon_pcapng.specs.Readings.{Packet, Reading, behind, classic_of, front_bytes, mark_of, packet_bytes, reading_left, reading_of, records_bytes, remarks_by, remarks_of}
+use Rattle.seatmelon_pcapng.specs.Sections.{interfaces_in, link_types_met, order_in}
 use Rattle.seatmelon_pcapng.specs.declared.classic.Classic.{Classic}
 use Rattle.seatmelon_pcapng.specs.declared.classic.Progress.{Progress}
 use Rattle.seatmelon_pcapng.specs.declared.classic.Progress.TheVariants.{Going, Ended}
 use Rattle.seatmelon_pcapng.specs.declared.interface.Interface.{Interface}
+use Rattle.seatmelon_pcapng.specs.declared.link_types.LinkTypes.{LinkTypes}
 use Rattle.seatmelon_pcapng.specs.declared.order.Order.{Order}
 use Rattle.seatmelon_pcapng.specs.declared.refusal.Refusal.{Refusal}
 use Rattle.seatmelon_pcapng.specs.declared.remarks.Remarks.{Remarks}
-use Rattle.seatmelon_pcapng.proofs.Steps.{other-none}
+use Rattle.seatmelon_pcapng.proofs.LinkTypeLemmas.{first_of-none}
+use Rattle.seatmelon_pcapng.proofs.Steps.{met-none}
 
 still : (old new : Option Remarks) (r : Remarks) → Stays old new → old ≡ Some r → new ≡ Some r
 still old new r stays is = rw is at stays
@@ -129,50 +132,52 @@ module _ (held : List ℕ) (reading : Reading) (e : held ++ records_bytes readin
   packets_none : reading.packets ≡ []
   packets_none = no_packet reading.packets (none_before (flat_map packet_bytes reading.packets) (mark_of reading.refusal) no_record)
 
-abbrev told : Option Refusal → Option ℕ → Remarks
-told refusal other = record { refusal = refusal; other_link_type = other }
+behind_none : (met : LinkTypes) (r : Reading) → r.refusal ≡ None → r.met ≡ no_link_types → remarks_by None met ≡ behind met (remarks_of r)
+behind_none met r refusal none =
+    ap (remarks_by None) (first_of-none met) ∙ ap (λ (m : LinkTypes). remarks_by None (first_of met m)) (sym none)
+    ∙ ap (λ (a : Option Refusal). remarks_by a (first_of met r.met)) (sym refusal)
 
-behind_none : (other : Option ℕ) (r : Remarks) → r.refusal ≡ None → r.other_link_type ≡ None → told None other ≡ behind other r
-behind_none None r refusal none = ap (λ a. told a None) (sym refusal) ∙ ap (λ o. told r.refusal o) (sym none)
-behind_none (Some link_type) r refusal none = ap (λ a. told a (Some link_type)) (sym refusal)
-
-module _ (other : Option ℕ) (order : Option Order) (interfaces : List Interface) (at : ℕ) (held : List ℕ) where
+module _ (met : LinkTypes) (order : Option Order) (interfaces : List Interface) (at : ℕ) (held : List ℕ) where
   abbrev reading_with : List ℕ → Reading
   reading_with rest = reading_left (record { order = order; interfaces = interfaces; at = at; rest = rest })
 
   none-known : (known : Option (List ℕ)) (r : Remarks) → option_map (given_by order interfaces at held) known ≡ Some []
-      → option_map (λ rest. behind other (remarks_of (reading_with rest))) known ≡ Some r → told None other ≡ r
+      → option_map (λ rest. behind met (remarks_of (reading_with rest))) known ≡ Some r → remarks_by None met ≡ r
   none-known None r all is = absurd cc
   none-known (Some rest) r all is =
       let reading = reading_with rest in
       let end : held ++ records_bytes reading ≡ [] = cc in
-      let same : behind other (remarks_of reading) ≡ r = cc in
-      behind_none other (remarks_of reading) (refusal_none held reading end) (other-none (length rest) _ (packets_none held reading end)) ∙ same
+      let same : behind met (remarks_of reading) ≡ r = cc in
+      behind_none met reading (refusal_none held reading end) (met-none (length rest) _ (packets_none held reading end)) ∙ same
 
   all-given : (known : Option (List ℕ)) (p : Progress) (r : Remarks) → left_by held (option_map (given_by order interfaces at held) known) p ≡ Some []
-      → remarks_left_by other (option_map (λ rest. behind other (remarks_of (reading_with rest))) known) p ≡ Some r → told (refusal_by p) other ≡ r
+      → remarks_left_by met (option_map (λ rest. behind met (remarks_of (reading_with rest))) known) p ≡ Some r → remarks_by (refusal_by p) met ≡ r
   all-given known Going r all is = none-known known r all is
   all-given known (Ended refusal) r all is = cc
 
-refusal-met : (other : Option ℕ) (known : Option Remarks) (p : Progress) (refusal : Refusal) (r : Remarks) → refusal_by p ≡ Some refusal
-    → remarks_left_by other known p ≡ Some r → r.refusal ≡ Some refusal
-refusal-met other known Going refusal r is left = absurd cc
-refusal-met other known (Ended met) refusal r is left = (let same : told met other ≡ r = cc in ap (λ (t : Remarks). t.refusal) (sym same) ∙ is)
+refusal-met : (met : LinkTypes) (known : Option Remarks) (p : Progress) (refusal : Refusal) (r : Remarks) → refusal_by p ≡ Some refusal
+    → remarks_left_by met known p ≡ Some r → r.refusal ≡ Some refusal
+refusal-met met known Going refusal r is left = absurd cc
+refusal-met met known (Ended found) refusal r is left = (let same : remarks_by found met ≡ r = cc in ap (λ (t : Remarks). t.refusal) (sym same) ∙ is)
 
-first_met : (other : Option ℕ) (link_type : ℕ) (r : Remarks) → other ≡ Some link_type → (behind other r).other_link_type ≡ Some link_type
-first_met other link_type r is = ap (λ o. option_or o r.other_link_type) is
+-- one of the link types that are met, and what is told of it
+module _ (pick : LinkTypes → Option ℕ) (told : Remarks → Option ℕ) (told_is : (refusal : Option Refusal) (met : LinkTypes) → told (remarks_by refusal met) ≡ pick met)
+    (first_is : (first next : LinkTypes) → pick (first_of first next) ≡ option_or (pick first) (pick next)) (met : LinkTypes) (link_type : ℕ) (is : pick met ≡ Some link_type) where
+  first_met : (r : Remarks) → told (behind met r) ≡ Some link_type
+  first_met r =
+      let next : LinkTypes = record { other = r.other_link_type; cooked = r.cooked_link_type } in
+      told_is r.refusal (first_of met next) ∙ first_is met next ∙ ap (λ (o : Option ℕ). option_or o (pick next)) is
 
-known-met : (other : Option ℕ) (ends : List ℕ → Remarks) (known : Option (List ℕ)) (link_type : ℕ) (r : Remarks) → other ≡ Some link_type
-    → option_map (λ rest. behind other (ends rest)) known ≡ Some r → r.other_link_type ≡ Some link_type
-known-met other ends None link_type r is left = absurd cc
-known-met other ends (Some rest) link_type r is left =
-    let same : behind other (ends rest) ≡ r = cc in
-    ap (λ (t : Remarks). t.other_link_type) (sym same) ∙ first_met other link_type (ends rest) is
+  known-met : (ends : List ℕ → Remarks) (known : Option (List ℕ)) (r : Remarks) → option_map (λ rest. behind met (ends rest)) known ≡ Some r → told r ≡ Some link_type
+  known-met ends None r left = absurd cc
+  known-met ends (Some rest) r left =
+      let same : behind met (ends rest) ≡ r = cc in
+      ap told (sym same) ∙ first_met (ends rest)
 
-other-met : (other : Option ℕ) (ends : List ℕ → Remarks) (known : Option (List ℕ)) (p : Progress) (link_type : ℕ) (r : Remarks) → other ≡ Some link_type
-    → remarks_left_by other (option_map (λ rest. behind other (ends rest)) known) p ≡ Some r → r.other_link_type ≡ Some link_type
-other-met other ends known Going link_type r is left = known-met other ends known link_type r is left
-other-met other ends known (Ended refusal) link_type r is left = (let same : told refusal other ≡ r = cc in ap (λ (t : Remarks). t.other_link_type) (sym same) ∙ is)
+  link_type-met : (ends : List ℕ → Remarks) (known : Option (List ℕ)) (p : Progress) (r : Remarks)
+      → remarks_left_by met (option_map (λ rest. behind met (ends rest)) known) p ≡ Some r → told r ≡ Some link_type
+  link_type-met ends known Going r left = known-met ends known r left
+  link_type-met ends known (Ended refusal) r left = (let same : remarks_by refusal met ≡ r = cc in ap told (sym same) ∙ told_is refusal met ∙ is)
 
 known_end : (left : Option (List ℕ)) (whole given : List ℕ) → Consumes (Some whole) left given → IsAtEnd left → left ≡ Some []
 known_end None whole given h end = absurd h
@@ -188,7 +193,7 @@ module _ {S : Type 0} (remaining : S → Option (List ℕ)) (notes : S → List 
   -- once all was given, what is told beside the packets is that of the file
   gives-all : Gives remaining notes c file given → left_in remaining c ≡ Some [] → remarks_in c ≡ remarks_of (reading_of file)
   gives-all g all =
-      all-given (other_met c.section) (order_in c.section) (interfaces_in c.section) c.at (bytes_held c.held) (rest_in remaining c) c.progress
+      all-given (link_types_met c.section) (order_in c.section) (interfaces_in c.section) c.at (bytes_held c.held) (rest_in remaining c) c.progress
       (remarks_of (reading_of file)) all g.remarks
 
   pub gives-remarks : Gives remaining notes c file given → IsAtEnd (left_in remaining c) → remarks_in c ≡ remarks_of (reading_of file)
@@ -200,13 +205,18 @@ module _ {S : Type 0} (remaining : S → Option (List ℕ)) (notes : S → List 
   -- a refusal that was met is that of the file
   pub gives-refused : (refusal : Refusal) → Gives remaining notes c file given → refusal_in c ≡ Some refusal → (reading_of file).refusal ≡ Some refusal
   gives-refused refusal g is =
-      refusal-met (other_met c.section) (option_map (remarks_with c) (rest_in remaining c)) c.progress refusal (remarks_of (reading_of file)) is g.remarks
+      refusal-met (link_types_met c.section) (option_map (remarks_with c) (rest_in remaining c)) c.progress refusal (remarks_of (reading_of file)) is g.remarks
 
   -- so is a link type
-  pub gives-other : (link_type : ℕ) → Gives remaining notes c file given → other_met c.section ≡ Some link_type → (reading_of file).other ≡ Some link_type
+  pub gives-other : (link_type : ℕ) → Gives remaining notes c file given → (link_types_met c.section).other ≡ Some link_type → (reading_of file).met.other ≡ Some link_type
   gives-other link_type g is =
-      other-met (other_met c.section) (λ rest. remarks_of (reading_left (state_with c rest))) (rest_in remaining c) c.progress link_type
-      (remarks_of (reading_of file)) is g.remarks
+      link_type-met (λ met. met.other) (λ r. r.other_link_type) (λ refusal met. refl) (λ first next. refl) (link_types_met c.section) link_type is
+      (λ rest. remarks_of (reading_left (state_with c rest))) (rest_in remaining c) c.progress (remarks_of (reading_of file)) g.remarks
+
+  pub gives-cooked : (link_type : ℕ) → Gives remaining notes c file given → (link_types_met c.section).cooked ≡ Some link_type → (reading_of file).met.cooked ≡ Some link_type
+  gives-cooked link_type g is =
+      link_type-met (λ met. met.cooked) (λ r. r.cooked_link_type) (λ refusal met. refl) (λ first next. refl) (link_types_met c.section) link_type is
+      (λ rest. remarks_of (reading_left (state_with c rest))) (rest_in remaining c) c.progress (remarks_of (reading_of file)) g.remarks
 
 -- what passed a source of which a file was told is what it gave of that file
 pub gives-passed : {S : Type 0} (remaining : S → Option (List ℕ)) (notes : S → List ℕ → Type 0) (old new : Classic S) (file : List ℕ)

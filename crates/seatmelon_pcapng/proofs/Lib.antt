@@ -1,8 +1,10 @@
 pub mod Captures
 pub mod Comings
+pub mod CookedRecords
 pub mod Filled
 pub mod Formats
 pub mod Gives
+pub mod LinkTypeLemmas
 pub mod Looking
 pub mod Options
 pub mod Passing

@@ -2,20 +2,21 @@
 use Rattle.std.proofs.Common.{◌≡◌, ◌∙◌, ℕ, zero, suc, ◌+◌, ◌-◌, ◌<◌, ◌≤◌, List, [], ◌∷◌, ◌++◌, append_assoc, length, length-drop, take, drop, Option, None, Some, Result, Ok, Err, Bool, true, false, nat_lt, nat_eq, not, cond, refl, ap, sym, arith}
 use Rattle.std.specs.Prelude.{◌||◌, ◌%◌}
 use Rattle.std.specs.List.{flat_map}
-use Rattle.std.specs.Option.{option_or}
 use Rattle.std.proofs.lemmas.List.{drop-append-le, nil_from_length}
 use Rattle.std.proofs.lemmas.List.Concat.{flat_map-append}
 use Rattle.std.proofs.lemmas.Bool.{ltb-false}
 use Rattle.std.proofs.lemmas.Bool.Decides.{nat_tests}
 use Rattle.byteorder.specs.Endian.{big_number, little_number}
 use Rattle.byteorder.specs.Numbers.{big_from-append, little_from-append}
-use Rattle.seatmelon_pcapng.specs.Blocks.{enhanced_packet, front_by, front_of, interface_description, kind_in, least_length, length_in, most_length, obsolete_packet, or_else, order_of, other_of, section_header, simple_packet, turn_of}
+use Rattle.seatmelon_pcapng.specs.Blocks.{enhanced_packet, front_by, front_of, interface_description, kind_in, least_length, length_in, link_types_of, most_length, obsolete_packet, or_else, order_of, section_header, simple_packet, turn_of}
+use Rattle.seatmelon_pcapng.specs.LinkTypes.{first_of, no_link_types}
 use Rattle.seatmelon_pcapng.specs.Orders.{byte_order_magic, field}
-use Rattle.seatmelon_pcapng.specs.Readings.{Next, Packet, Reading, State, behind, by_front, by_turn, mark_of, next_of, packet_bytes, packets_in, read_step, reading_from, reading_left, records_bytes, remarks_of, state_after}
+use Rattle.seatmelon_pcapng.specs.Readings.{Next, Packet, Reading, State, behind, by_front, by_turn, mark_of, next_of, packet_bytes, packets_in, read_step, reading_from, reading_left, records_bytes, remarks_by, remarks_of, state_after}
 use Rattle.seatmelon_pcapng.specs.Readings.Next.{ended, refused, goes}
 use Rattle.seatmelon_pcapng.specs.declared.block.Turn.{Turn}
 use Rattle.seatmelon_pcapng.specs.declared.block.Turn.TheVariants as turns
 use Rattle.seatmelon_pcapng.specs.declared.front.Front.{Front}
+use Rattle.seatmelon_pcapng.specs.declared.link_types.LinkTypes.{LinkTypes}
 use Rattle.seatmelon_pcapng.specs.declared.order.Order.{Order}
 use Rattle.seatmelon_pcapng.specs.declared.order.Order.TheVariants.{Little, Big}
 use Rattle.seatmelon_pcapng.specs.declared.refusal.Reason.{Reason}
@@ -159,7 +160,7 @@ goes-whole s front turn e = next_whole s (nat_eq (length s.rest) 0) (nat_lt (len
 -- ---- as many blocks as there are bytes are enough
 
 abbrev nothing_more : Reading
-nothing_more = record { packets = []; refusal = None; other = None }
+nothing_more = record { packets = []; refusal = None; met = no_link_types }
 
 reading-suc : (left : ℕ) (s : State) (n : Next) → next_of s ≡ n → reading_from (suc left) s ≡ read_step s n (reading_from left (state_after s n))
 unfolding reading_from
@@ -242,38 +243,39 @@ spelled-goes s front turn e =
 
 -- ---- what is told beside the packets
 
-pub remarks-ended : (s : State) → s.rest ≡ [] → remarks_of (reading_left s) ≡ record { refusal = None; other_link_type = None }
+pub remarks-ended : (s : State) → s.rest ≡ [] → remarks_of (reading_left s) ≡ remarks_by None no_link_types
 remarks-ended s h = ap remarks_of (reading-none (length s.rest) s (no_length s.rest h))
 
 pub remarks-refused : (s : State) (reason : Reason) → next_of s ≡ refused reason
-    → remarks_of (reading_left s) ≡ record { refusal = Some (record { reason = reason; at = s.at }); other_link_type = None }
+    → remarks_of (reading_left s) ≡ remarks_by (Some (record { reason = reason; at = s.at })) no_link_types
 remarks-refused s reason e = ap remarks_of (reading_left-suc s (refused reason) (refused-some s reason e) e)
 
 pub remarks-goes : (s : State) (front : Front) (turn : Turn) → next_of s ≡ goes front turn
-    → remarks_of (reading_left s) ≡ behind (other_of turn) (remarks_of (reading_left (state_after s (goes front turn))))
+    → remarks_of (reading_left s) ≡ behind (link_types_of turn) (remarks_of (reading_left (state_after s (goes front turn))))
 remarks-goes s front turn e =
     let whole = goes-whole s front turn e in
     let size : length (drop front.len s.rest) ≡ length s.rest - front.len = length-drop front.len s.rest in
     ap remarks_of (reading_left-suc s (goes front turn) (omega (arith, whole.0, whole.1)) e)
-    ∙ ap (λ (r : Reading). behind (other_of turn) (remarks_of r)) (enough (length s.rest - 1) (length (drop front.len s.rest)) (state_after s (goes front turn))
+    ∙ ap (λ (r : Reading). behind (link_types_of turn) (remarks_of r)) (enough (length s.rest - 1) (length (drop front.len s.rest)) (state_after s (goes front turn))
     (omega (arith, size, whole.0, whole.1)) (omega (arith, size)))
 
 -- where no packet is read, no link type is told
-packets-none : (block : List ℕ) (turn : Turn) (packets : List Packet) (other : Option ℕ) → (packets ≡ [] → other ≡ None)
-    → packets_in block turn ++ packets ≡ [] → option_or (other_of turn) other ≡ None
-packets-none block turns.Section packets other h e = h e
-packets-none block (turns.Interface i) packets other h e = h e
-packets-none block (turns.Packet found) packets other h e = absurd cc
-packets-none block (turns.Foreign found link_type) packets other h e = absurd cc
-packets-none block turns.Other packets other h e = h e
+packets-none : (block : List ℕ) (turn : Turn) (packets : List Packet) (met : LinkTypes) → (packets ≡ [] → met ≡ no_link_types)
+    → packets_in block turn ++ packets ≡ [] → first_of (link_types_of turn) met ≡ no_link_types
+packets-none block turns.Section packets met h e = h e
+packets-none block (turns.Interface i) packets met h e = h e
+packets-none block (turns.Packet found) packets met h e = absurd cc
+packets-none block (turns.Cooked found kind) packets met h e = absurd cc
+packets-none block (turns.Foreign found link_type) packets met h e = absurd cc
+packets-none block turns.Other packets met h e = h e
 
-step-none : (s : State) (next : Next) (more : Reading) → (more.packets ≡ [] → more.other ≡ None) → (read_step s next more).packets ≡ []
-    → (read_step s next more).other ≡ None
+step-none : (s : State) (next : Next) (more : Reading) → (more.packets ≡ [] → more.met ≡ no_link_types) → (read_step s next more).packets ≡ []
+    → (read_step s next more).met ≡ no_link_types
 step-none s ended more h e = refl
 step-none s (refused reason) more h e = refl
-step-none s (goes front turn) more h e = packets-none (take front.len s.rest) turn more.packets more.other h e
+step-none s (goes front turn) more h e = packets-none (take front.len s.rest) turn more.packets more.met h e
 
-pub other-none : (left : ℕ) (s : State) → (reading_from left s).packets ≡ [] → (reading_from left s).other ≡ None
+pub met-none : (left : ℕ) (s : State) → (reading_from left s).packets ≡ [] → (reading_from left s).met ≡ no_link_types
 unfolding reading_from
-other-none zero s e = refl
-other-none (suc left) s e = step-none s (next_of s) (reading_from left (state_after s (next_of s))) (other-none left (state_after s (next_of s))) e
+met-none zero s e = refl
+met-none (suc left) s e = step-none s (next_of s) (reading_from left (state_after s (next_of s))) (met-none left (state_after s (next_of s))) e

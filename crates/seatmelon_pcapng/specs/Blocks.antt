@@ -1,7 +1,10 @@
 -- The blocks of a section.
 use Rattle.std.specs.Prelude.{ℕ, ◌+◌, ◌*◌, ◌-◌, ◌%◌, ◌^◌, min, ◌==◌, ◌||◌, ◌&&◌, not, Bool, List, [], ◌∷◌, ◌++◌, length}
 use Rattle.std.specs.Prelude.{slice_get, nat_lt, nat_le, Option, None, Some, Result, Ok, Err, if◌then◌else◌}
+use Rattle.seatmelon_cooked.specs.Forms.{kind_of, link_type_of}
+use Rattle.seatmelon_cooked.specs.declared.form.Kind.{Kind}
 use Rattle.seatmelon_pcapng.specs.Interfaces.{interface_in}
+use Rattle.seatmelon_pcapng.specs.LinkTypes.{no_link_types}
 use Rattle.seatmelon_pcapng.specs.Moments.{moment_at, no_moment}
 use Rattle.seatmelon_pcapng.specs.Orders.{field, order_told}
 use Rattle.seatmelon_pcapng.specs.declared.block.Found.{Found}
@@ -9,6 +12,7 @@ use Rattle.seatmelon_pcapng.specs.declared.block.Turn.{Turn}
 use Rattle.seatmelon_pcapng.specs.declared.block.Turn.TheVariants as turns
 use Rattle.seatmelon_pcapng.specs.declared.front.Front.{Front}
 use Rattle.seatmelon_pcapng.specs.declared.interface.Interface.{Interface}
+use Rattle.seatmelon_pcapng.specs.declared.link_types.LinkTypes.{LinkTypes}
 use Rattle.seatmelon_pcapng.specs.declared.order.Order.{Order}
 use Rattle.seatmelon_pcapng.specs.declared.order.Order.TheVariants.{Little}
 use Rattle.seatmelon_pcapng.specs.declared.refusal.Reason.{Reason}
@@ -95,10 +99,18 @@ most_captured = 262144
 abbrev pub most_interfaces : ℕ
 most_interfaces = 65536
 
--- a packet of this interface whose bytes stand there; they aren't told where it isn't one of Ethernet
+-- a packet with this cooked header; without any, no bytes of it are told
+abbrev pub packet_with : Option Kind → ℕ → Found → Turn
+packet_with (Some kind) link_type found = turns.Cooked found kind
+packet_with None link_type found = turns.Foreign (record found { end = found.start }) link_type
+
+-- a packet of an interface that isn't one of Ethernet
+abbrev pub packet_by : ℕ → Found → Turn
+packet_by link_type found = packet_with (kind_of link_type) link_type found
+
+-- a packet of this interface whose bytes stand there
 abbrev pub packet_of : Interface → Found → Turn
-packet_of i found = if i.link_type == ethernet then turns.Packet found
-    else turns.Foreign (record found { end = found.start }) i.link_type
+packet_of i found = if i.link_type == ethernet then turns.Packet found else packet_by i.link_type found
 
 -- a packet of which so many bytes stand there, in a block that has room for so many
 abbrev pub packet_turn : Interface → Moment → ℕ → ℕ → ℕ → ℕ → Result Turn Reason
@@ -152,13 +164,15 @@ abbrev pub interfaces_after : List Interface → Turn → List Interface
 interfaces_after interfaces turns.Section = []
 interfaces_after interfaces (turns.Interface i) = interfaces ++ i ∷ []
 interfaces_after interfaces (turns.Packet found) = interfaces
+interfaces_after interfaces (turns.Cooked found kind) = interfaces
 interfaces_after interfaces (turns.Foreign found link_type) = interfaces
 interfaces_after interfaces turns.Other = interfaces
 
 -- the link type of a packet, if it isn't that of Ethernet
-abbrev pub other_of : Turn → Option ℕ
-other_of turns.Section = None
-other_of (turns.Interface i) = None
-other_of (turns.Packet found) = None
-other_of (turns.Foreign found link_type) = Some link_type
-other_of turns.Other = None
+abbrev pub link_types_of : Turn → LinkTypes
+link_types_of turns.Section = no_link_types
+link_types_of (turns.Interface i) = no_link_types
+link_types_of (turns.Packet found) = no_link_types
+link_types_of (turns.Cooked found kind) = record { other = None; cooked = Some (link_type_of kind) }
+link_types_of (turns.Foreign found link_type) = record { other = Some link_type; cooked = None }
+link_types_of turns.Other = no_link_types

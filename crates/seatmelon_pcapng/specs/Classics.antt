@@ -3,12 +3,13 @@ use Rattle.std.specs.Prelude.{◌≡◌, ℕ, List, [], ◌++◌, Option, Some, 
 use Rattle.std.specs.Io.KnownBytes.{prepend_known}
 use Rattle.seatmelon_pcapng.specs.Memory.{bytes_held, bytes_of}
 use Rattle.seatmelon_pcapng.specs.Progress.{IsReading, refusal_by}
-use Rattle.seatmelon_pcapng.specs.Readings.{Next, State, behind, next_of, reading_left, records_bytes, remarks_of}
-use Rattle.seatmelon_pcapng.specs.Sections.{interfaces_in, order_in, other_met}
+use Rattle.seatmelon_pcapng.specs.Readings.{Next, State, behind, next_of, reading_left, records_bytes, remarks_by, remarks_of}
+use Rattle.seatmelon_pcapng.specs.Sections.{interfaces_in, link_types_met, order_in}
 use Rattle.seatmelon_pcapng.specs.declared.classic.Classic.{Classic}
 use Rattle.seatmelon_pcapng.specs.declared.classic.Progress.{Progress}
 use Rattle.seatmelon_pcapng.specs.declared.classic.Progress.TheVariants.{Going, Ended}
 use Rattle.seatmelon_pcapng.specs.declared.interface.Interface.{Interface}
+use Rattle.seatmelon_pcapng.specs.declared.link_types.LinkTypes.{LinkTypes}
 use Rattle.seatmelon_pcapng.specs.declared.order.Order.{Order}
 use Rattle.seatmelon_pcapng.specs.declared.order.Order.TheVariants.{Little}
 use Rattle.seatmelon_pcapng.specs.declared.refusal.Refusal.{Refusal}
@@ -27,7 +28,7 @@ refusal_in c = refusal_by c.progress
 
 -- what is told of the file beside the packets that were read
 abbrev pub remarks_in : {S : Type 0} → Classic S → Remarks
-remarks_in c = record { refusal = refusal_in c; other_link_type = other_met c.section }
+remarks_in c = remarks_by (refusal_in c) (link_types_met c.section)
 
 -- ---- what it will give
 
@@ -60,17 +61,17 @@ state_with c rest = record { order = order_in c.section; interfaces = interfaces
 
 -- what is told beside all packets, where these bytes follow
 abbrev pub remarks_with : {S : Type 0} → Classic S → List ℕ → Remarks
-remarks_with c rest = behind (other_met c.section) (remarks_of (reading_left (state_with c rest)))
+remarks_with c rest = behind (link_types_met c.section) (remarks_of (reading_left (state_with c rest)))
 
 -- once it has ended, what it met
-abbrev pub remarks_left_by : Option ℕ → Option Remarks → Progress → Option Remarks
-remarks_left_by other known Going = known
-remarks_left_by other known (Ended refusal) = Some (record { refusal = refusal; other_link_type = other })
+abbrev pub remarks_left_by : LinkTypes → Option Remarks → Progress → Option Remarks
+remarks_left_by met known Going = known
+remarks_left_by met known (Ended refusal) = Some (remarks_by refusal met)
 
 -- what is told beside all packets in the end, where it is known what is left
 abbrev pub remarks_left : {S : Type 0} → (S → Option (List ℕ)) → Classic S → Option Remarks
 remarks_left remaining c =
-    remarks_left_by (other_met c.section) (option_map (remarks_with c) (rest_in remaining c)) c.progress
+    remarks_left_by (link_types_met c.section) (option_map (remarks_with c) (rest_in remaining c)) c.progress
 
 -- where it was known, it is still the same
 abbrev pub Stays : Option Remarks → Option Remarks → Type 0

@@ -33,6 +33,10 @@ abbrev pub other_told : Format → Option ℕ
 other_told Classic = None
 other_told (Pcapng remarks) = remarks.other_link_type
 
+abbrev pub cooked_told : Format → Option ℕ
+cooked_told Classic = None
+cooked_told (Pcapng remarks) = remarks.cooked_link_type
+
 abbrev pub source_of : {S : Type 0} → Capture S → S
 source_of (Plain p) = peeked.source_of p
 source_of (Converted c) = peeked.source_of (classics.source_of c)

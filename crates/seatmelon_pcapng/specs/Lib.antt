@@ -4,6 +4,7 @@ pub mod Comings
 pub mod Formats
 pub mod Giving
 pub mod Interfaces
+pub mod LinkTypes
 pub mod Memory
 pub mod Moments
 pub mod Orders

@@ -2,14 +2,17 @@
 use Rattle.std.specs.Prelude.{ℕ, zero, suc, ◌+◌, ◌-◌, ◌%◌, ◌^◌, ◌≤◌, ◌==◌, List, [], ◌∷◌, ◌++◌, length, take, drop}
 use Rattle.std.specs.Prelude.{slice_range, nat_lt, Option, None, Some, Result, Ok, Err, if◌then◌else◌, ⊤}
 use Rattle.std.specs.List.{flat_map}
-use Rattle.std.specs.Option.{option_or}
 use Rattle.byteorder.specs.Endian.{little_bytes}
-use Rattle.seatmelon_pcapng.specs.Blocks.{front_of, interfaces_after, most_captured, other_of, turn_of}
+use Rattle.seatmelon_cooked.specs.Frames.{excess, frame_of}
+use Rattle.seatmelon_cooked.specs.declared.form.Kind.{Kind}
+use Rattle.seatmelon_pcapng.specs.Blocks.{front_of, interfaces_after, link_types_of, most_captured, turn_of}
+use Rattle.seatmelon_pcapng.specs.LinkTypes.{first_of, no_link_types}
 use Rattle.seatmelon_pcapng.specs.declared.block.Found.{Found}
 use Rattle.seatmelon_pcapng.specs.declared.block.Turn.{Turn}
 use Rattle.seatmelon_pcapng.specs.declared.block.Turn.TheVariants as turns
 use Rattle.seatmelon_pcapng.specs.declared.front.Front.{Front}
 use Rattle.seatmelon_pcapng.specs.declared.interface.Interface.{Interface}
+use Rattle.seatmelon_pcapng.specs.declared.link_types.LinkTypes.{LinkTypes}
 use Rattle.seatmelon_pcapng.specs.declared.order.Order.{Order}
 use Rattle.seatmelon_pcapng.specs.declared.refusal.Reason.{Reason}
 use Rattle.seatmelon_pcapng.specs.declared.refusal.Reason.TheVariants.{Cut}
@@ -25,6 +28,7 @@ abbrev pub EndsWithin : ℕ → Turn → Type 0
 EndsWithin len turns.Section = ⊤
 EndsWithin len (turns.Interface i) = ⊤
 EndsWithin len (turns.Packet found) = StandsWithin len found
+EndsWithin len (turns.Cooked found kind) = StandsWithin len found
 EndsWithin len (turns.Foreign found link_type) = StandsWithin len found
 EndsWithin len turns.Other = ⊤
 
@@ -64,6 +68,7 @@ abbrev pub order_after : Option Order → Front → Turn → Option Order
 order_after known front turns.Section = Some front.order
 order_after known front (turns.Interface i) = known
 order_after known front (turns.Packet found) = known
+order_after known front (turns.Cooked found kind) = known
 order_after known front (turns.Foreign found link_type) = known
 order_after known front turns.Other = known
 
@@ -95,37 +100,47 @@ packet_in block found = record {
   bytes = slice_range block found.start found.end;
 }
 
+-- the same of a packet with a cooked header, as a frame of Ethernet, which is shorter
+abbrev pub cooked_in : List ℕ → Found → Kind → Packet
+cooked_in block found kind = record {
+  seconds = found.moment.seconds;
+  nanoseconds = found.moment.nanoseconds;
+  original = found.original - excess kind;
+  bytes = frame_of kind (slice_range block found.start found.end);
+}
+
 -- the packet of a block, if it is one of a packet
 abbrev pub packets_in : List ℕ → Turn → List Packet
 packets_in block turns.Section = []
 packets_in block (turns.Interface i) = []
 packets_in block (turns.Packet found) = packet_in block found ∷ []
+packets_in block (turns.Cooked found kind) = cooked_in block found kind ∷ []
 packets_in block (turns.Foreign found link_type) = packet_in block found ∷ []
 packets_in block turns.Other = []
 
--- the packets that are read, the refusal that ends them, and the link type of the first of them that isn't one of
+-- the packets that are read, the refusal that ends them, and the link types of the first of them that aren't frames of
 -- Ethernet
 pub record Reading : Type 0 where
   pub packets : List Packet
   pub refusal : Option Refusal
-  pub other : Option ℕ
+  pub met : LinkTypes
 
 abbrev pub read_step : State → Next → Reading → Reading
-read_step s ended more = record { packets = []; refusal = None; other = None }
+read_step s ended more = record { packets = []; refusal = None; met = no_link_types }
 read_step s (refused reason) more = record {
   packets = [];
   refusal = Some (record { reason = reason; at = s.at });
-  other = None;
+  met = no_link_types;
 }
 read_step s (goes front turn) more = record {
   packets = packets_in (take front.len s.rest) turn ++ more.packets;
   refusal = more.refusal;
-  other = option_or (other_of turn) more.other;
+  met = first_of (link_types_of turn) more.met;
 }
 
 -- at most so many blocks
 unfoldable pub reading_from : ℕ → State → Reading
-reading_from zero s = record { packets = []; refusal = None; other = None }
+reading_from zero s = record { packets = []; refusal = None; met = no_link_types }
 reading_from (suc left) s = read_step s (next_of s) (reading_from left (state_after s (next_of s)))
 
 -- all that is left; each block has some bytes
@@ -140,12 +155,17 @@ abbrev pub reading_of : List ℕ → Reading
 reading_of file = reading_left (at_begin file)
 
 -- what is told beside the packets
-abbrev pub remarks_of : Reading → Remarks
-remarks_of r = record { refusal = r.refusal; other_link_type = r.other }
+abbrev pub remarks_by : Option Refusal → LinkTypes → Remarks
+remarks_by refusal met =
+    record { refusal = refusal; other_link_type = met.other; cooked_link_type = met.cooked }
 
--- the same behind a packet of this link type, if it isn't that of Ethernet
-abbrev pub behind : Option ℕ → Remarks → Remarks
-behind other remarks = record remarks { other_link_type = option_or other remarks.other_link_type }
+abbrev pub remarks_of : Reading → Remarks
+remarks_of r = remarks_by r.refusal r.met
+
+-- the same behind packets of which these link types are told
+abbrev pub behind : LinkTypes → Remarks → Remarks
+behind met remarks = remarks_by remarks.refusal
+    (first_of met (record { other = remarks.other_link_type; cooked = remarks.cooked_link_type }))
 
 -- ---- the classic capture
 

@@ -1,6 +1,6 @@
 //! What a block says.
 ghost use Rattle.std.specs.Prelude.{◌≡◌, ◌+◌, ◌≤◌, ℕ, length, option_map, IfOk};
-ghost use Rattle.seatmelon_pcapng.specs.Blocks.{bounded_by, full_turn, has_version, least_length, packet_of, packet_turn, simple_turn, stamp_in, turn_by, turn_of};
+ghost use Rattle.seatmelon_pcapng.specs.Blocks.{bounded_by, full_turn, has_version, least_length, packet_by, packet_of, packet_turn, simple_turn, stamp_in, turn_by, turn_of};
 ghost use Rattle.seatmelon_pcapng.specs.Readings.{EndsWithin, StandsWithin};
 
 use crate::front::{
@@ -10,6 +10,7 @@ use crate::interface::Interface;
 use crate::order::Order;
 use crate::refusal::Reason;
 use crate::time::{Moment, NO_MOMENT};
+use seatmelon_cooked::Kind;
 
 // The most interfaces of a section.
 const MOST_INTERFACES: usize = 65_536;
@@ -55,7 +56,10 @@ pub enum Turn {
     /// A packet.
     Packet(Found),
 
-    /// A packet of an interface that isn't one of Ethernet, of which no bytes are told, and the link type of that.
+    /// A packet of an interface whose packets have cooked headers.
+    Cooked(Found, Kind),
+
+    /// A packet of another interface, of which no bytes are told, and the link type of that.
     Foreign(Found, u16),
 
     /// Nothing that is read.
@@ -71,6 +75,22 @@ fn has_version(order: Order, block: &[u8]) -> bool
     order.u16_at(block, 12) == 1 && (minor == 0 || minor == 2)
 }
 
+// A packet of an interface that isn't one of Ethernet.
+#[cold]
+#[inline(never)]
+fn packet_by(link_type: u16, found: Found) -> Turn
+    ensures value { result ≡ packet_by link_type found }
+    ensures within { (len : ℕ) → StandsWithin len found → EndsWithin len result }
+{
+    match Kind::of(u32::from(link_type)) {
+        Some(kind) => Turn::Cooked(found, kind),
+        None => {
+            let end = found.start;
+            Turn::Foreign(Found { end, ..found }, link_type)
+        }
+    }
+}
+
 // A packet of this interface.
 #[inline(always)]
 fn packet_of(interface: &Interface, found: Found) -> Turn
@@ -80,8 +100,7 @@ fn packet_of(interface: &Interface, found: Found) -> Turn
     if interface.link_type == ETHERNET {
         Turn::Packet(found)
     } else {
-        let end = found.start;
-        Turn::Foreign(Found { end, ..found }, interface.link_type)
+        packet_by(interface.link_type, found)
     }
 }
 

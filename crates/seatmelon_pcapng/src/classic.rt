@@ -6,10 +6,11 @@ ghost use Rattle.std.specs.List.{flat_map};
 ghost use Rattle.rasta_pcap.specs.Devices.{after_read};
 ghost use Rattle.rasta_pcap.specs.Fault.{no_memory};
 ghost use Rattle.rasta_pcap.specs.Noting.{NotesOn, PassesOn, given};
+ghost use Rattle.seatmelon_cooked.specs.Frames.{header_length};
 ghost use Rattle.seatmelon_pcapng.specs.Blocks.{most_captured};
 ghost use Rattle.seatmelon_pcapng.specs.Comings.{IsCut, Tells};
 ghost use Rattle.seatmelon_pcapng.specs.Memory.{bytes_held, bytes_of};
-ghost use Rattle.seatmelon_pcapng.specs.Readings.{EndsWithin, StandsWithin, classic_of, front_by, packet_bytes, packet_in, packets_in, reading_of};
+ghost use Rattle.seatmelon_pcapng.specs.Readings.{EndsWithin, StandsWithin, classic_of, cooked_in, front_by, packet_bytes, packet_in, packets_in, reading_of};
 ghost use Rattle.seatmelon_pcapng.specs.Sections.{interfaces_in, order_in};
 
 use crate::block::{Found, Turn};
@@ -23,6 +24,7 @@ use crate::remarks::Remarks;
 use crate::section::Section;
 use byteorder::{ByteOrder, LittleEndian};
 use rasta_pcap::{Fault, Source};
+use seatmelon_cooked::Kind;
 use std::alloc::{AllocError, Global};
 use std::io;
 use std::io::ErrorKind;
@@ -33,8 +35,10 @@ const HEADER: [u8; 24] = [
     0x4d, 0x3c, 0xb2, 0xa1, 2, 0, 4, 0, 0, 0, 0, 0, 0, 0, 0, 0, 0, 0, 4, 0, 1, 0, 0, 0,
 ];
 
-// The bytes of a record before its frame.
+// The bytes of a record before its frame, and with the header of Ethernet.
 const RECORD_FRONT: usize = 16;
+
+const ETHERNET_FRONT: usize = 30;
 
 // How many bytes are read at once, where no block is longer.
 const BUFFER: usize = 65_536;
@@ -53,11 +57,13 @@ enum Progress {
 }
 
 /// A source that gives the bytes of a classic capture while it reads those of a pcapng file: a record for each packet
-/// block, in their order. That of a frame other than one of Ethernet is empty. Times are cut to nanoseconds; a packet that
-/// has none, or one whose seconds don't fit 32 bits, is told as captured at 0.
+/// block, in their order. A packet with a cooked header is told as a frame of Ethernet, and that of any other frame is
+/// empty. Times are cut to nanoseconds; a packet that has none, or one whose seconds don't fit 32 bits, is told as captured
+/// at 0.
 ///
 /// It keeps what it read at once, and few records. A file that is refused ends inside the record behind those that were
-/// read, and [`Classic::refusal`] tells why. [`Classic::remarks`] names the link type of frames that are told as empty.
+/// read, and [`Classic::refusal`] tells why. [`Classic::remarks`] names the link types of frames other than those of
+/// Ethernet.
 #[derive(Drop)]
 pub struct Classic<S> {
     source: S,
@@ -127,6 +133,44 @@ fn spell_packet(held: &mut Held, block: &[u8], found: &Found) -> Result<(), Allo
     held.put(&front_of(found), &block[found.start..found.end])
 }
 
+// Holds the record of a packet whose cooked header is whole, as a frame of Ethernet. It is held at once, so that there is
+// nothing to take back where there is no memory.
+fn spell_frame(held: &mut Held, block: &[u8], found: &Found, kind: Kind) -> Result<(), AllocError>
+    requires within { StandsWithin (length block.now) found.now }
+    requires whole { found.now.start + header_length kind ≤ found.now.end }
+    ensures held { OnOk result (bytes_held held.new ≡ bytes_held held.old ++ flat_map packet_bytes (cooked_in block.now found.now kind ∷ [])) }
+    ensures kept { OnErr result (bytes_held held.new ≡ bytes_held held.old) }
+{
+    let packet = &block[found.start..found.end];
+    let frame = Found {
+        original: found.original.saturating_sub(kind.excess()),
+        start: found.start + kind.excess() as usize,
+        ..*found
+    };
+    let mut front = [0; ETHERNET_FRONT];
+    write_record(&front_of(&frame), &kind.ethernet_header(packet), &mut front);
+    held.put(&front, &packet[kind.header_len()..])
+}
+
+// Holds the record of a packet with a cooked header, as a frame of Ethernet: without bytes, if the header was cut.
+#[cold]
+#[inline(never)]
+fn spell_cooked(held: &mut Held, block: &[u8], found: &Found, kind: Kind) -> Result<(), AllocError>
+    requires { StandsWithin (length block.now) found.now }
+    ensures held { OnOk result (bytes_held held.new ≡ bytes_held held.old ++ flat_map packet_bytes (cooked_in block.now found.now kind ∷ [])) }
+    ensures kept { OnErr result (bytes_held held.new ≡ bytes_held held.old) }
+{
+    if found.end - found.start >= kind.header_len() {
+        return spell_frame(held, block, found, kind);
+    }
+    let none = Found {
+        original: found.original.saturating_sub(kind.excess()),
+        start: found.end,
+        ..*found
+    };
+    held.put(&front_of(&none), &[])
+}
+
 // The same, if the block is one of a packet.
 #[inline(always)]
 fn spell(held: &mut Held, block: &[u8], turn: &Turn) -> Result<(), AllocError>
@@ -136,6 +180,7 @@ fn spell(held: &mut Held, block: &[u8], turn: &Turn) -> Result<(), AllocError>
 {
     match turn {
         Turn::Packet(found) | Turn::Foreign(found, _) => spell_packet(held, block, found),
+        Turn::Cooked(found, kind) => spell_cooked(held, block, found, *kind),
         Turn::Section | Turn::Interface(_) | Turn::Other => Ok(()),
     }
 }
@@ -185,13 +230,15 @@ impl<S: Source> Classic<S> {
     }
 
     /// What is told of the file beside the packets that were read: why it is refused, once all before was read, and the
-    /// link type of the first of them that isn't one of Ethernet.
+    /// link types of the first of them that aren't frames of Ethernet.
     pub fn remarks(&self) -> Remarks
         ensures { result ≡ remarks_in self.now }
     {
+        let met = self.section.link_types();
         Remarks {
             refusal: self.refusal(),
-            other_link_type: self.section.other_link_type(),
+            other_link_type: met.other,
+            cooked_link_type: met.cooked,
         }
     }
 

@@ -1,6 +1,6 @@
 //! In which format a file was read.
 ghost use Rattle.std.specs.Prelude.{◌≡◌};
-ghost use Rattle.seatmelon_pcapng.specs.Formats.{is_of_pcapng, other_told, refusal_told};
+ghost use Rattle.seatmelon_pcapng.specs.Formats.{cooked_told, is_of_pcapng, other_told, refusal_told};
 
 use crate::refusal::Refusal;
 use crate::remarks::Remarks;
@@ -36,13 +36,23 @@ impl Format {
         }
     }
 
-    /// The link type of the interface of the first packet of a pcapng file that isn't one of Ethernet, if it has any.
+    /// The link type of the interface of the first packet of a pcapng file of which no bytes are told, if it has any.
     pub fn other_link_type(self) -> Option<u16>
         ensures { result ≡ other_told self }
     {
         match self {
             Format::Classic => None,
             Format::Pcapng(remarks) => remarks.other_link_type,
+        }
+    }
+
+    /// The link type of the interface of the first packet of a pcapng file that has a cooked header, if it has any.
+    pub fn cooked_link_type(self) -> Option<u16>
+        ensures { result ≡ cooked_told self }
+    {
+        match self {
+            Format::Classic => None,
+            Format::Pcapng(remarks) => remarks.cooked_link_type,
         }
     }
 }

@@ -62,8 +62,14 @@ pub fn met_refusal_is_of_the_capture<S: Source>()
         → formats.refusal_told (formats.format_in c) ≡ Some refusal → formats.refusal_told (formats.format_of file) ≡ Some refusal }
 {}
 
-/// And a link type other than that of Ethernet that it has met is the first one of the file.
+/// And the link type of a packet without bytes that it has met is that of the first such packet of the file.
 pub fn met_link_type_is_of_the_capture<S: Source>()
     ensures { (c : Capture S) (file given : List ℕ) (link_type : ℕ) → formats.noted_by S.remaining S.notes c (told_as file ++ given)
         → formats.other_told (formats.format_in c) ≡ Some link_type → formats.other_told (formats.format_of file) ≡ Some link_type }
+{}
+
+/// So is that of a packet with a cooked header.
+pub fn met_cooked_link_type_is_of_the_capture<S: Source>()
+    ensures { (c : Capture S) (file given : List ℕ) (link_type : ℕ) → formats.noted_by S.remaining S.notes c (told_as file ++ given)
+        → formats.cooked_told (formats.format_in c) ≡ Some link_type → formats.cooked_told (formats.format_of file) ≡ Some link_type }
 {}

@@ -10,6 +10,7 @@ mod format;
 mod front;
 mod interface;
 pub mod laws;
+mod link_types;
 mod memory;
 mod order;
 mod peeked;

@@ -1,13 +1,14 @@
 //! A section, as far as it was read.
 ghost use Rattle.std.specs.Prelude.{◌≡◌, ℕ, List, ◌∷◌, ◌++◌, [], None, Some, OnOk, OnErr};
-ghost use Rattle.std.specs.Option.{option_or};
-ghost use Rattle.seatmelon_pcapng.specs.Blocks.{interfaces_after, other_of};
+ghost use Rattle.seatmelon_pcapng.specs.Blocks.{interfaces_after, link_types_of};
+ghost use Rattle.seatmelon_pcapng.specs.LinkTypes.{first_of, no_link_types};
 ghost use Rattle.seatmelon_pcapng.specs.Readings.{order_after, packets_in};
-ghost use Rattle.seatmelon_pcapng.specs.Sections.{interfaces_in, order_in, other_met};
+ghost use Rattle.seatmelon_pcapng.specs.Sections.{interfaces_in, link_types_met, order_in};
 
 use crate::block::Turn;
 use crate::front::Front;
 use crate::interface::Interface;
+use crate::link_types::{LinkTypes, NO_LINK_TYPES};
 use crate::order::Order;
 use std::alloc::{AllocError, Global};
 
@@ -17,8 +18,8 @@ pub struct Section {
     order: Option<Order>,
     interfaces: Vec<Interface>,
 
-    // The link type of the first packet, also in sections before, that isn't one of Ethernet.
-    other: Option<u16>,
+    // The link types of the first packets, also in sections before, that aren't frames of Ethernet.
+    met: LinkTypes,
 }
 
 impl Section {
@@ -26,12 +27,12 @@ impl Section {
     pub fn new(alloc: Global) -> Section
         ensures order { order_in result ≡ None }
         ensures interfaces { interfaces_in result ≡ [] }
-        ensures other { other_met result ≡ None }
+        ensures met { link_types_met result ≡ no_link_types }
     {
         Section {
             order: None,
             interfaces: Vec::new(alloc),
-            other: None,
+            met: NO_LINK_TYPES,
         }
     }
 
@@ -51,18 +52,18 @@ impl Section {
         self.interfaces.as_slice()
     }
 
-    /// The link type of the first packet, of this section and those before it, that isn't one of Ethernet.
-    pub fn other_link_type(&self) -> Option<u16>
-        ensures { result ≡ other_met self.now }
+    /// The link types of the first packets, of this section and those before it, that aren't frames of Ethernet.
+    pub fn link_types(&self) -> LinkTypes
+        ensures { result ≡ link_types_met self.now }
     {
-        self.other
+        self.met
     }
 
     // Another section begins.
     fn begin(&mut self, order: Order)
         ensures order { order_in self.new ≡ Some order }
         ensures interfaces { interfaces_in self.new ≡ [] }
-        ensures other { other_met self.new ≡ other_met self.old }
+        ensures met { link_types_met self.new ≡ link_types_met self.old }
     {
         self.order = Some(order);
         self.interfaces.clear();
@@ -73,7 +74,7 @@ impl Section {
         ensures order { order_in self.new ≡ order_in self.old }
         ensures interfaces { OnOk result (interfaces_in self.new ≡ interfaces_in self.old ++ interface ∷ []) }
         ensures kept { OnErr result (interfaces_in self.new ≡ interfaces_in self.old) }
-        ensures other { other_met self.new ≡ other_met self.old }
+        ensures met { link_types_met self.new ≡ link_types_met self.old }
     {
         self.interfaces.push(interface)?;
         Ok(())
@@ -84,9 +85,9 @@ impl Section {
     pub fn pass(&mut self, front: Front, turn: &Turn) -> Result<(), AllocError>
         ensures order { OnOk result (order_in self.new ≡ order_after (order_in self.old) front turn.now) }
         ensures interfaces { OnOk result (interfaces_in self.new ≡ interfaces_after (interfaces_in self.old) turn.now) }
-        ensures other { OnOk result (other_met self.new ≡ option_or (other_met self.old) (other_of turn.now)) }
+        ensures met { OnOk result (link_types_met self.new ≡ first_of (link_types_met self.old) (link_types_of turn.now)) }
         ensures kept { OnErr result ((order_in self.new ≡ order_in self.old) × (interfaces_in self.new ≡ interfaces_in self.old)
-            × (other_met self.new ≡ other_met self.old)) }
+            × (link_types_met self.new ≡ link_types_met self.old)) }
         ensures no_packet { OnErr result ((block : List ℕ) → packets_in block turn.now ≡ []) }
     {
         match turn {
@@ -95,8 +96,12 @@ impl Section {
                 Ok(())
             }
             Turn::Interface(interface) => self.describe(*interface),
+            Turn::Cooked(_, kind) => {
+                self.met.meet_cooked(kind.link_type());
+                Ok(())
+            }
             Turn::Foreign(_, link_type) => {
-                self.other = self.other.or(Some(*link_type));
+                self.met.meet_other(*link_type);
                 Ok(())
             }
             Turn::Packet(_) | Turn::Other => Ok(()),

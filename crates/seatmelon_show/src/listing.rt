@@ -17,7 +17,7 @@ use crate::sight::{Sight, sight_in};
 use rasta_pcap::stream::RecordReader;
 use rasta_pcap::{Buffered, CaptureTime, Fault, Record, Sink, Source};
 use rasta_pdu::Params;
-use seatmelon_capture::write_other_link_type;
+use seatmelon_capture::write_link_types;
 use seatmelon_pcapng::{Capture, Format};
 use std::alloc::Global;
 
@@ -149,7 +149,7 @@ fn list_records<R: Source, W: Sink>(
 fn write_tail<W: Sink>(writer: &mut W, listing: &Listing, format: Format) -> Result<(), Fault>
     ensures err { IfErr result (λ f. f ≡ write_failed) }
 {
-    write_other_link_type(writer, format)?;
+    write_link_types(writer, format)?;
     if let Some(fault) = listing.fault {
         write_end(writer, fault, format)?;
     }

@@ -4,7 +4,7 @@ ghost use Rattle.rasta_pcap.specs.Devices.{AsWritten};
 use crate::findings::Survey;
 use rasta_pcap::{Fault, Sink};
 use rasta_pdu::Kind;
-use seatmelon_capture::write_other_link_type;
+use seatmelon_capture::write_link_types;
 use seatmelon_connections::{ChannelCounts, Connection, NumberCounts, Party};
 use seatmelon_packets::{FitCount, Lengths};
 use seatmelon_text::{numbered, parts, tell, write_parts, write_parts_if, write_words};
@@ -30,7 +30,7 @@ pub fn write_summary<W: Sink>(writer: &mut W, survey: &Survey) -> Result<(), Fau
         survey.left_out(),
     );
     write_parts_if(writer, survey.left_out() > 0, &left_out)?;
-    write_other_link_type(writer, survey.format())?;
+    write_link_types(writer, survey.format())?;
     let none = parts!["no packet of a RaSTA connection\n"];
     write_parts_if(writer, survey.connections().is_empty(), &none)
 }

@@ -218,13 +218,15 @@ fn write_connections<W: Sink>(writer: &mut W, names: &[String], audit: &Audit) -
     Ok(())
 }
 
-// Writes which link type an interface of a file in this format has, if the format tells one other than that of
-// Ethernet.
-fn write_other_link_type<W: Sink>(writer: &mut W, format: Format) -> Result<(), Fault>
+// Writes which link types interfaces of a file in this format have, if the format tells any beside that of Ethernet.
+fn write_link_types<W: Sink>(writer: &mut W, format: Format) -> Result<(), Fault>
     ensures err { IfErr result (λ f. f ≡ write_failed) }
 {
-    match format.other_link_type() {
-        Some(link_type) => tell!(writer, ",\"other_link_type\":", link_type),
+    if let Some(link_type) = format.other_link_type() {
+        tell!(writer, ",\"other_link_type\":", link_type)?;
+    }
+    match format.cooked_link_type() {
+        Some(link_type) => tell!(writer, ",\"cooked_link_type\":", link_type),
         None => Ok(()),
     }
 }
@@ -252,6 +254,6 @@ pub fn write_audit_json<W: Sink>(
         ",\"fault\":"
     )?;
     write_fault_json(writer, audit.fault, format)?;
-    write_other_link_type(writer, format)?;
+    write_link_types(writer, format)?;
     write_words(writer, "}\n")
 }

@@ -7,7 +7,7 @@ use rasta_pcap::{CaptureTime, Fault, Side, Sink};
 use seatmelon_audit::{
     Answer, Audit, Before, Conveyed, Explained, Refusal, Share, ShownOf, Subject,
 };
-use seatmelon_capture::write_other_link_type;
+use seatmelon_capture::write_link_types;
 use seatmelon_pcapng::Format;
 use seatmelon_survey::write_fault;
 use seatmelon_text::{tell, write_words};
@@ -326,9 +326,9 @@ fn write_counts<W: Sink>(writer: &mut W, audit: &Audit) -> Result<(), Fault>
     )
 }
 
-/// Writes an audit in words: a line for each connection, with its name, in their order; which link type an interface of
-/// the file has, if its format tells one other than that of Ethernet; what the fault of the file says, if it isn't whole;
-/// and how many there are of each kind. The names stand in the order of the connections.
+/// Writes an audit in words: a line for each connection, with its name, in their order; which link types interfaces of the
+/// file have, if its format tells any beside that of Ethernet; what the fault of the file says, if it isn't whole; and how
+/// many there are of each kind. The names stand in the order of the connections.
 pub fn write_audit<W: Sink>(
     writer: &mut W,
     names: &[String],
@@ -340,7 +340,7 @@ pub fn write_audit<W: Sink>(
     for (name, connection) in names.iter().zip(audit.connections.iter()) {
         write_answer(writer, name.as_str(), &connection.answer, audit.fault)?;
     }
-    write_other_link_type(writer, format)?;
+    write_link_types(writer, format)?;
     write_fault_if(writer, audit.fault, format)?;
     write_counts(writer, audit)
 }

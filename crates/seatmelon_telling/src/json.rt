@@ -35,8 +35,8 @@ fn write_file<W: Sink>(writer: &mut W, file: &File<'_>) -> Result<(), Fault>
     write_words(writer, "}")
 }
 
-// Writes in which format the capture was read, where that isn't the classic one, and which link type an interface has,
-// if the format tells one other than that of Ethernet.
+// Writes in which format the capture was read, where that isn't the classic one, and which link types interfaces have, if
+// the format tells any beside that of Ethernet.
 fn write_format<W: Sink>(writer: &mut W, format: Format) -> Result<(), Fault>
     ensures err { IfErr result (λ f. f ≡ write_failed) }
 {
@@ -44,8 +44,11 @@ fn write_format<W: Sink>(writer: &mut W, format: Format) -> Result<(), Fault>
         return Ok(());
     }
     write_words(writer, ",\"format\":\"pcapng\"")?;
-    match format.other_link_type() {
-        Some(link_type) => tell!(writer, ",\"other_link_type\":", link_type),
+    if let Some(link_type) = format.other_link_type() {
+        tell!(writer, ",\"other_link_type\":", link_type)?;
+    }
+    match format.cooked_link_type() {
+        Some(link_type) => tell!(writer, ",\"cooked_link_type\":", link_type),
         None => Ok(()),
     }
 }

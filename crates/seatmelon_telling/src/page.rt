@@ -9,6 +9,7 @@ use rasta_pcap::{Fault, Sink};
 use rasta_pdu::Params;
 use rasta_udp::Channel;
 use seatmelon_account::{Account, File, Offer, Offers};
+use seatmelon_capture::AS_ETHERNET;
 use seatmelon_pcapng::Format;
 use seatmelon_reading::{ChannelCount, Sighting, Window};
 use seatmelon_text::{PROGRAM, Part, parts, tell, write_parts, write_words};
@@ -29,16 +30,16 @@ fn write_file<W: Sink>(writer: &mut W, what: &str, file: &File<'_>) -> Result<()
     )
 }
 
-// Writes of which link type an interface is that isn't one of Ethernet, and what becomes of its packets.
-fn write_interface<W: Sink>(writer: &mut W, link_type: u16) -> Result<(), Fault>
+// Writes of which link type an interface is that isn't one of Ethernet, and what becomes of its packets, if one is told.
+fn write_interface<W: Sink>(writer: &mut W, link_type: Option<u16>, fate: &str) -> Result<(), Fault>
     ensures err { IfErr result (λ f. f ≡ write_failed) }
 {
+    let Some(link_type) = link_type else {
+        return Ok(());
+    };
     write_words(writer, "; an interface of it has ")?;
     write_named(writer, link_type)?;
-    write_words(
-        writer,
-        ", and its packets are passed over as not IPv4 or UDP",
-    )
+    tell!(writer, ", and its packets are ", fate)
 }
 
 // Writes in which format the capture was read, where that isn't the classic one.
@@ -49,9 +50,9 @@ fn write_format<W: Sink>(writer: &mut W, format: Format) -> Result<(), Fault>
         return Ok(());
     }
     write_words(writer, "    read as pcapng")?;
-    if let Some(link_type) = format.other_link_type() {
-        write_interface(writer, link_type)?;
-    }
+    let passed_over = "passed over as not IPv4 or UDP";
+    write_interface(writer, format.other_link_type(), passed_over)?;
+    write_interface(writer, format.cooked_link_type(), AS_ETHERNET)?;
     write_words(writer, "\n")
 }
 

@@ -209,7 +209,7 @@ fn great_counts_and_no_memory(rt: HostRuntime) {
     assert_eq!(rt; is_great_told(rt.alloc()), Some(true));
 }
 
-// What is written in a form on an audit of no connections, whose pcapng file has a packet of another link type than
+// What is written in a form on an audit of no connections, whose pcapng file has packets of other link types than
 // Ethernet's, and is refused at a block behind its first record.
 fn text_on_refused(alloc: Global, form: Form) -> Option<Vec<u8>> {
     let audit = Audit {
@@ -223,7 +223,8 @@ fn text_on_refused(alloc: Global, form: Form) -> Option<Vec<u8>> {
             reason: Reason::Trailer,
             at: 60,
         }),
-        other_link_type: Some(276),
+        other_link_type: Some(101),
+        cooked_link_type: Some(276),
     });
     let mut writer = Counted::new(Vec::new(alloc));
     write_in(form, &mut writer, &inputs_of(&[], &[]), &audit, format).ok()?;
@@ -231,14 +232,16 @@ fn text_on_refused(alloc: Global, form: Form) -> Option<Vec<u8>> {
 }
 
 const REFUSED_TEXT: &str =
-    "an interface of this file has link type 276 (Linux cooked capture v2): its packets are of no connection\n\
+    "an interface of this file has link type 101 (raw IP): its packets are of no connection\n\
+    an interface of this file has link type 276 (Linux cooked capture v2): its packets are read as Ethernet frames, with \
+    zeros for addresses that they lack\n\
     after 1 record, at byte 60: the two lengths of a block differ (14 CutRecord)\n\
     0 connections; 0 packets; 1 record of none of these connections\n";
 
 const REFUSED_JSON: &str = "{\"connections\":[],\"records\":1,\"packets\":0,\"others\":1,\
     \"fault\":{\"number\":14,\"name\":\"CutRecord\",\"record\":2,\
     \"block\":{\"offset\":60,\"reason\":\"the two lengths of a block differ\"}},\
-    \"other_link_type\":276}";
+    \"other_link_type\":101,\"cooked_link_type\":276}";
 
 // Whether the refusal of a file is told so in a form.
 fn is_refusal_told(alloc: Global, form: Form, text: &str) -> Option<bool> {

@@ -16,6 +16,7 @@ use seatmelon_explain::{Extent, Form, Inputs, Names, Outcome, Texts, explain};
 use std::alloc::Global;
 use std::process::Abort;
 use std::str;
+use trials_rows::pcapng_with;
 
 // What begins the lines on what the packets alone show.
 const SHOWN: &str = "\n\nclient to server: ";
@@ -272,6 +273,32 @@ fn is_told_whole(alloc: Global) -> Option<bool> {
 #[test]
 fn whole_text(rt: HostRuntime) {
     assert_eq!(rt; is_told_whole(rt.alloc()), Some(true));
+}
+
+// What stands in a pcapng file behind a packet with a cooked header: a packet of another interface.
+const RAW_BEHIND: &str = " [1 2:101 2:0 4:0 ] [6 4:1 4:0 4:0 4:0 4:0 ]";
+
+// Whether the text on such a file has these words.
+fn tells_interfaces(alloc: Global, form: Form, words: &str) -> Option<bool> {
+    let given = explained()?.given(alloc)?;
+    let file = pcapng_with(alloc, 276, 0, &[0; 20], RAW_BEHIND)?;
+    let mut reader = Counted::new(file.as_slice());
+    let (_, text) = told(alloc, &given, &given.params, form, &mut reader)?;
+    Some(str::from_utf8(&text).ok()?.contains(words))
+}
+
+#[test]
+fn interfaces_of_a_pcapng_file(rt: HostRuntime) {
+    let alloc = rt.alloc();
+    let text =
+        "\n    read as pcapng; an interface of it has link type 101 (raw IP), and its packets are passed over as not IPv4 \
+        or UDP; an interface of it has link type 276 (Linux cooked capture v2), and its packets are read as Ethernet frames, \
+        with zeros for addresses that they lack\n";
+    let is_told = tells_interfaces(alloc, Form::Text(Extent::ALL), text);
+    assert_eq!(rt; is_told, Some(true));
+    let json = ",\"format\":\"pcapng\",\"other_link_type\":101,\"cooked_link_type\":276}";
+    let is_told = tells_interfaces(alloc, Form::Json, json);
+    assert_eq!(rt; is_told, Some(true));
 }
 
 // More bytes than a file has: with so many, its front is the whole.

@@ -1,65 +1,33 @@
-//! Messages are written by pieces as they were written byte by byte.
-ghost use Rattle.std.specs.Prelude.{◌≡◌, IfErr};
-ghost use Rattle.rasta_pcap.specs.Fault.{write_failed};
-
+//! Messages are told in hexadecimal digits and as text, whatever their lengths: by rows, each a byte or a few that a message
+//! repeats, so that what is told of it repeats what is told of them.
 use crate::cases::explained;
 use crate::explain_tests::told;
-use rasta_pcap::{Counted, Fault, Sink, write_all};
+use rasta_pcap::Counted;
 use rasta_pdu::{Body, Kind, Params, PduParts, Side, encode};
 use seatmelon_explain::{Extent, Form, Outcome, Selection};
 use std::alloc::Global;
 use std::process::Abort;
 use std::str;
-use trials_draws::Draws;
-use trials_rows::{FILE_HEADER, channel_of, file_of, push_frame, push_record};
+use trials_rows::{FILE_HEADER, bytes_of, channel_of, file_of, push_frame, push_record};
 
-// The former code, byte by byte, as it was: from here to `write_text`.
-const DIGITS: [u8; 16] = *b"0123456789abcdef";
+// Bytes, the text that is told of them, and that text in a string of JSON.
+const ROWS: &str = r#"5c|\\|\\\\
+41|A|A
+2041| A| A
+7e|~|~
+1f|\x1f|\\x1f
+7f|\x7f|\\x7f
+ff|\xff|\\xff
+22|"|\"
+5c410a|\\A\x0a|\\\\A\\x0a
+80205c5c|\x80 \\\\|\\x80 \\\\\\\\
+6162637a002e|abcz\x00.|abcz\\x00.
+"#;
 
-fn digit(n: u8) -> u8 {
-    DIGITS[usize::from(n % 16)]
-}
-
-fn write_byte<W: Sink>(writer: &mut W, byte: u8) -> Result<(), Fault>
-    ensures err { IfErr result (λ f. f ≡ write_failed) }
-{
-    write_all(writer, &[digit(byte / 16), digit(byte)])
-}
-
-fn write_hex<W: Sink>(writer: &mut W, bytes: &[u8]) -> Result<(), Fault>
-    ensures err { IfErr result (λ f. f ≡ write_failed) }
-{
-    for byte in bytes {
-        write_byte(writer, *byte)?;
-    }
-    Ok(())
-}
-
-// Writes a byte as text. A backslash is doubled.
-fn write_character<W: Sink>(writer: &mut W, byte: u8) -> Result<(), Fault>
-    ensures err { IfErr result (λ f. f ≡ write_failed) }
-{
-    match byte {
-        b'\\' => write_all(writer, b"\\\\"),
-        b' '..=b'~' => write_all(writer, &[byte]),
-        _ => write_all(writer, &[b'\\', b'x', digit(byte / 16), digit(byte)]),
-    }
-}
-
-fn write_text<W: Sink>(writer: &mut W, bytes: &[u8]) -> Result<(), Fault>
-    ensures err { IfErr result (λ f. f ≡ write_failed) }
-{
-    for byte in bytes {
-        write_character(writer, *byte)?;
-    }
-    Ok(())
-}
-
-// The lengths of the messages: about 16 and 64 bytes, which digits are written by, and the 256 of a room for text,
-// which is written once fewer than four are left.
-const LENGTHS: [usize; 26] = [
-    0, 1, 15, 16, 17, 48, 63, 64, 65, 80, 126, 127, 128, 251, 252, 253, 254, 255, 256, 257, 300,
-    504, 506, 508, 600, 1400,
+// How often messages repeat them: digits are spelled by 16 and 64 bytes, and a room for text has 256, which is written
+// once fewer than four are left.
+const TIMES: [usize; 22] = [
+    0, 1, 15, 16, 17, 42, 50, 51, 63, 64, 65, 84, 126, 127, 128, 252, 253, 254, 255, 256, 257, 600,
 ];
 
 // The settings of the opening, and of what confirms the data.
@@ -76,50 +44,26 @@ const WHOLE: Extent = Extent {
     is_whole: true,
 };
 
-/// Which bytes a message has.
-#[derive(Clone, Copy, Debug)]
-enum Bytes {
-    Backslashes,
-    Printable,
-    Unprintable,
-    // Runs of these.
-    Mixed,
+// A row: bytes in hexadecimal digits, and both texts.
+#[derive(Clone, Copy)]
+struct Row<'a> {
+    hex: &'a str,
+    text: &'a str,
+    json: &'a str,
 }
 
-const KINDS: [Bytes; 4] = [
-    Bytes::Backslashes,
-    Bytes::Printable,
-    Bytes::Unprintable,
-    Bytes::Mixed,
-];
-
-// A byte of this kind; in a mixed message, of the kind of its run.
-fn byte_of(kind: Bytes, run: u8, drawn: u8) -> u8 {
-    match (kind, run % 4) {
-        (Bytes::Backslashes, _) | (Bytes::Mixed, 0) => b'\\',
-        (Bytes::Printable, _) | (Bytes::Mixed, 1) => drawn % 95 + 32,
-        (Bytes::Unprintable, _) | (Bytes::Mixed, 2) => drawn | 0x80,
-        (Bytes::Mixed, _) => drawn,
-    }
+fn row_in(line: &str) -> Option<Row<'_>> {
+    let (hex, texts) = line.split_once('|')?;
+    let (text, json) = texts.split_once('|')?;
+    Some(Row { hex, text, json })
 }
 
-fn message(alloc: Global, kind: Bytes, len: usize, draws: &mut Draws) -> Option<Vec<u8>> {
-    let mut bytes = Vec::new(alloc);
-    let mut run = draws.byte();
-    for _ in 0..len {
-        if draws.happens(8) {
-            run = draws.byte();
-        }
-        bytes.push(byte_of(kind, run, draws.byte())).ok()?;
-    }
-    Some(bytes)
-}
-
-fn messages(alloc: Global, kind: Bytes, seed: u64) -> Option<Vec<Vec<u8>>> {
-    let mut draws = Draws::new(seed);
+// The messages of a row.
+fn messages(alloc: Global, row: Row<'_>) -> Option<Vec<Vec<u8>>> {
     let mut all = Vec::new(alloc);
-    for len in LENGTHS {
-        all.push(message(alloc, kind, len, &mut draws)?).ok()?;
+    for times in TIMES {
+        let digits = row.hex.repeat(alloc, times).ok()?;
+        all.push(bytes_of(alloc, digits.as_str())?).ok()?;
     }
     Some(all)
 }
@@ -180,50 +124,47 @@ fn rest_after<'a>(text: &'a [u8], words: &str) -> Option<&'a [u8]> {
     Some(rest.as_bytes())
 }
 
-// Writes a message as the former code did.
-fn write_former<W: Sink>(writer: &mut W, bytes: &[u8]) -> Result<(), Fault> {
-    if bytes.is_empty() {
-        return write_all(writer, b"  empty\n");
-    }
-    write_all(writer, b"  hex: ")?;
-    write_hex(writer, bytes)?;
-    write_all(writer, b"\n  text: ")?;
-    write_text(writer, bytes)?;
-    write_all(writer, b"\n")
-}
-
-// The text that the former code wrote.
-fn former(alloc: Global, all: &[Vec<u8>]) -> Option<Vec<u8>> {
-    let mut writer = Counted::new(Vec::new(alloc));
-    for (number, bytes) in all.iter().enumerate() {
+// What is wanted of the messages of a row, in words.
+fn wanted(alloc: Global, row: Row<'_>) -> Option<String> {
+    let mut lines = String::new(alloc);
+    for (number, times) in TIMES.iter().enumerate() {
         let head = format!(in alloc; "client to server {number}{PLACES}").ok()?;
-        write_all(&mut writer, head.as_bytes()).ok()?;
-        write_former(&mut writer, bytes.as_slice()).ok()?;
+        lines.push_str(head.as_str()).ok()?;
+        lines
+            .push_str(wanted_of(alloc, row, *times)?.as_str())
+            .ok()?;
     }
-    Some(writer.into_inner())
+    Some(lines)
 }
 
-// Whether messages of this kind are told as the former code told them.
-fn are_told(alloc: Global, kind: Bytes, seed: u64) -> Option<bool> {
-    let all = messages(alloc, kind, seed)?;
-    let wanted = former(alloc, &all)?;
+// What is wanted of one of them.
+fn wanted_of(alloc: Global, row: Row<'_>, times: usize) -> Option<String> {
+    if times == 0 {
+        return format!(in alloc; "  empty\n").ok();
+    }
+    let hex = row.hex.repeat(alloc, times).ok()?;
+    let text = row.text.repeat(alloc, times).ok()?;
+    format!(in alloc; "  hex: {hex}\n  text: {text}\n").ok()
+}
+
+// Whether the messages of a row are told so.
+fn are_told(alloc: Global, line: &str) -> Option<bool> {
+    let row = row_in(line)?;
+    let all = messages(alloc, row)?;
+    let wanted = wanted(alloc, row)?;
     let text = text_of(alloc, &all, Form::Text(WHOLE))?;
-    Some(rest_after(&text, " are of 1970-01-01):\n") == Some(wanted.as_slice()))
+    Some(rest_after(&text, " are of 1970-01-01):\n") == Some(wanted.as_bytes()))
 }
 
 #[test]
 fn messages_in_words(rt: HostRuntime) {
-    for (seed, kind) in KINDS.into_iter().chain([Bytes::Mixed; 8]).enumerate() {
-        assert_eq!(rt;
-            are_told(rt.alloc(), kind, seed as u64),
-            Some(true),
-            "{kind:?}, seed {seed}"
-        );
+    for line in ROWS.lines() {
+        assert_eq!(rt; are_told(rt.alloc(), line), Some(true), "{line}");
     }
 }
 
 // What precedes the first message in JSON.
-const WORDS_IN_JSON: &str = r#","surely_taken":26,"sent":26,"not_shown":null,"messages":["#;
+const WORDS_IN_JSON: &str = r#","surely_taken":22,"sent":22,"not_shown":null,"messages":["#;
 
 // What precedes the digits of each message in JSON, after its number.
 const PLACES_IN_JSON: &str =
@@ -232,60 +173,35 @@ const PLACES_IN_JSON: &str =
 const END_IN_JSON: &str =
     r#"]},{"from":"server","to":"client","surely_taken":0,"sent":0,"not_shown":null,"messages":[]}]}"#;
 
-// Adds printable text as a string of JSON has it.
-fn add_escaped(json: &mut Vec<u8>, text: &[u8]) -> Option<()> {
-    for byte in text {
-        if matches!(*byte, b'"' | b'\\') {
-            json.push(b'\\').ok()?;
-        }
-        json.push(*byte).ok()?;
+// The JSON that is wanted of the messages of a row.
+fn wanted_json(alloc: Global, row: Row<'_>) -> Option<String> {
+    let mut json = String::new(alloc);
+    for (number, times) in TIMES.iter().enumerate() {
+        let comma = if number > 0 { "," } else { "" };
+        let hex = row.hex.repeat(alloc, *times).ok()?;
+        let text = row.json.repeat(alloc, *times).ok()?;
+        let message = format!(in alloc;
+            "{comma}{{\"message\":{number}{PLACES_IN_JSON}{hex}\",\"text\":\"{text}\"}}"
+        );
+        json.push_str(message.ok()?.as_str()).ok()?;
     }
-    Some(())
-}
-
-// Adds a message to JSON, in the text that the former code wrote.
-fn add_former(alloc: Global, json: &mut Vec<u8>, number: usize, bytes: &[u8]) -> Option<()> {
-    let head = format!(in alloc; "{{\"message\":{number}{PLACES_IN_JSON}").ok()?;
-    json.extend_from_slice(head.as_bytes()).ok()?;
-    let mut hex = Counted::new(Vec::new(alloc));
-    write_hex(&mut hex, bytes).ok()?;
-    json.extend_from_slice(&hex.into_inner()).ok()?;
-    json.extend_from_slice(b"\",\"text\":\"").ok()?;
-    let mut text = Counted::new(Vec::new(alloc));
-    write_text(&mut text, bytes).ok()?;
-    add_escaped(json, &text.into_inner())?;
-    json.extend_from_slice(b"\"}").ok()
-}
-
-// The JSON of messages in the texts that the former code wrote.
-fn former_json(alloc: Global, all: &[Vec<u8>]) -> Option<Vec<u8>> {
-    let mut json = Vec::new(alloc);
-    for (number, bytes) in all.iter().enumerate() {
-        if number > 0 {
-            json.push(b',').ok()?;
-        }
-        add_former(alloc, &mut json, number, bytes.as_slice())?;
-    }
-    json.extend_from_slice(END_IN_JSON.as_bytes()).ok()?;
-    json.push(b'\n').ok()?;
+    json.push_str(END_IN_JSON).ok()?;
+    json.push_str("\n").ok()?;
     Some(json)
 }
 
-// Whether the JSON of messages of this kind has the texts that the former code wrote.
-fn are_told_in_json(alloc: Global, kind: Bytes, seed: u64) -> Option<bool> {
-    let all = messages(alloc, kind, seed)?;
-    let wanted = former_json(alloc, &all)?;
+// Whether the JSON of the messages of a row is the one that is wanted.
+fn are_told_in_json(alloc: Global, line: &str) -> Option<bool> {
+    let row = row_in(line)?;
+    let all = messages(alloc, row)?;
+    let wanted = wanted_json(alloc, row)?;
     let text = text_of(alloc, &all, Form::Json)?;
-    Some(rest_after(&text, WORDS_IN_JSON) == Some(wanted.as_slice()))
+    Some(rest_after(&text, WORDS_IN_JSON) == Some(wanted.as_bytes()))
 }
 
 #[test]
 fn messages_in_json(rt: HostRuntime) {
-    for (seed, kind) in KINDS.into_iter().enumerate() {
-        assert_eq!(rt;
-            are_told_in_json(rt.alloc(), kind, seed as u64),
-            Some(true),
-            "{kind:?}"
-        );
+    for line in ROWS.lines() {
+        assert_eq!(rt; are_told_in_json(rt.alloc(), line), Some(true), "{line}");
     }
 }

@@ -177,14 +177,34 @@ after 0 records, at byte 48: the file ends inside a block (14 CutRecord): nothin
 no packet of the recorded channels is in the window: check addresses and ports
 ";
 
-const COOKED: &str = "\
-an interface of this file has link type 276 (Linux cooked capture v2): its packets are of no connection
+const RAW: &str = "\
+an interface of this file has link type 101 (raw IP): its packets are of no connection
 no packet of the recorded channels is in the window: check addresses and ports
 ";
 
-// Whether the listing of the pcapng file names the link type of its interface, which isn't one of Ethernet.
+// Whether the listing of the pcapng file names the link type of its interface, of whose packets no bytes are told.
+fn is_raw_listed(alloc: Global) -> Option<bool> {
+    let file = pcapng_of(alloc, 101, "")?;
+    is_listed(alloc, &file, &listing_of(RAW))
+}
+
+// The cooked header of that packet in place of that of Ethernet, which has 14 bytes.
+const COOKED_HEADER: &[u8; 20] = b"\x08\0\0\0\0\0\0\x02\0\x01\0\x06\x02\0\0\0\0\x01\0\0";
+
+const COOKED: &str = "       \
+1  2026-01-01 00:00:00.000000000        1  client           7  connection request              100           0        1000           0  \
+version 0303, N_sendmax 20
+an interface of this file has link type 276 (Linux cooked capture v2): its packets are read as Ethernet frames, with zeros \
+for addresses that they lack
+packets listed: 1 of 1 in the window
+";
+
+// Whether the packet is listed where it has that header.
 fn is_cooked_listed(alloc: Global) -> Option<bool> {
-    let file = pcapng_of(alloc, 276, "")?;
+    let mut packet = Vec::new(alloc);
+    packet.extend_from_slice(COOKED_HEADER).ok()?;
+    packet.extend_from_slice(FILE.get(54..152)?).ok()?;
+    let file = pcapng_with(alloc, 276, 1_767_225_600_000_000, packet.as_slice(), "")?;
     is_listed(alloc, &file, &listing_of(COOKED))
 }
 
@@ -221,6 +241,7 @@ fn packets_of_a_pcapng_file(rt: HostRuntime) {
     assert_eq!(rt; is_pcapng_listed(alloc, "", ONE), Some(true));
     assert_eq!(rt; is_pcapng_listed(alloc, CUT_BLOCK, CUT_BEHIND), Some(true));
     assert_eq!(rt; is_pcapng_listed(alloc, " -4", CUT_BEFORE), Some(true));
+    assert_eq!(rt; is_raw_listed(alloc), Some(true));
     assert_eq!(rt; is_cooked_listed(alloc), Some(true));
 }
 

@@ -50,6 +50,22 @@ section [1 2:1 2:0 4:0 2:0 2:0 2:9 2:1 x00 ] [6 4:0 4:0 4:7 4:0 4:0 ] | 4:0 4:70
 section [1 2:1 2:0 4:0 2:2 2:99 2:9 2:1 x00 ] [6 4:0 4:0 4:7 4:0 4:0 ] | 4:0 4:7000 4:0 4:0 | -
 section [1 2:101 2:0 4:0 ] [6 4:0 4:0 4:7 4:3 4:9 x010203 ] [3 4:9 z9 ] | 4:0 4:7000 4:0 4:9 4:0 4:0 4:0 4:9 | -
 section ethernet [1 2:101 2:0 4:0 2:9 2:1 x00 ] [6 4:1 4:0 4:7 4:1 4:1 x01 ] [6 4:0 4:0 4:7 4:1 4:1 x02 ] | 4:7 4:0 4:0 4:1 4:0 4:7000 4:1 4:1 x02 | -
+section [1 2:113 2:0 4:0 ] [6 4:0 4:0 4:1000002 4:19 4:21 x0000000100060a0b0c0d0e0f0000080045aabb ] | 4:1 4:2000 4:17 4:19 x0000000000000a0b0c0d0e0f080045aabb | -
+big section [1 2:113 2:0 4:0 ] [6 4:0 4:0 4:1000002 4:19 4:19 x0000000100060a0b0c0d0e0f0000080045aabb ] | 4:1 4:2000 4:17 4:17 x0000000000000a0b0c0d0e0f080045aabb | -
+section [1 2:276 2:0 4:0 ] [6 4:0 4:0 4:1000002 4:23 4:23 x0800000000000003000100060a0b0c0d0e0f000045aabb ] | 4:1 4:2000 4:17 4:17 x0000000000000a0b0c0d0e0f080045aabb | -
+big section [1 2:276 2:0 4:0 ] [6 4:0 4:0 4:1000002 4:23 4:29 x0800000000000003000100060a0b0c0d0e0f000045aabb ] | 4:1 4:2000 4:17 4:23 x0000000000000a0b0c0d0e0f080045aabb | -
+section [1 2:113 2:0 4:0 ] [6 4:0 4:0 4:7 4:17 4:17 x0000030400000000000000000000080045 ] | 4:0 4:7000 4:15 4:15 z12 x080045 | -
+section [1 2:113 2:0 4:0 ] [6 4:0 4:0 4:7 4:17 4:17 x0000002000080102030405060708080045 ] | 4:0 4:7000 4:15 4:15 z12 x080045 | -
+section [1 2:276 2:0 4:0 ] [6 4:0 4:0 4:7 4:21 4:21 x0800000000000003002000080102030405060708ff ] | 4:0 4:7000 4:15 4:15 z12 x0800ff | -
+section [1 2:113 2:0 4:0 ] [6 4:0 4:0 4:7 4:16 4:16 x00000001000601020304050600008892 ] | 4:0 4:7000 4:14 4:14 z6 x0102030405068892 | -
+section [1 2:113 2:0 4:0 ] [6 4:0 4:0 4:7 4:15 4:60 x000000010006010203040506000088 ] | 4:0 4:7000 4:0 4:58 | -
+section [1 2:276 2:0 4:0 ] [6 4:0 4:0 4:7 4:19 4:60 x08000000000000030001000601020304050600 ] | 4:0 4:7000 4:0 4:54 | -
+section [1 2:276 2:0 4:0 ] [6 4:0 4:0 4:7 4:3 4:3 x080000 ] | 4:0 4:7000 4:0 4:0 | -
+section [1 2:113 2:0 4:18 ] [3 4:40 x000000010006010203040506000008004511 ] | 4:0 4:0 4:16 4:38 z6 x01020304050608004511 | -
+big section [1 2:276 2:0 4:0 ] [2 2:0 2:5 4:0 4:1000002 4:20 4:24 x0800000000000003000100060102030405060000 ] | 4:1 4:2000 4:14 4:18 z6 x0102030405060800 | -
+section ethernet [1 2:276 2:0 4:0 ] [1 2:101 2:0 4:0 ] [6 4:0 4:0 4:7 4:1 4:1 x01 ] [6 4:1 4:0 4:7 4:21 4:21 x080000000000000300010006010203040506000002 ] [6 4:2 4:0 4:7 4:3 4:9 x010203 ] [6 4:0 4:0 4:7 4:1 4:1 x04 ] | 4:0 4:7000 4:1 4:1 x01 4:0 4:7000 4:15 4:15 z6 x010203040506080002 4:0 4:7000 4:0 4:9 4:0 4:7000 4:1 4:1 x04 | -
+section [1 2:113 2:0 4:0 ] [6 4:0 4:0 4:0 4:5 4:5 x01020304 ] | . | CapturedBeyond at 48
+section [1 2:113 2:0 4:0 ] [6 4:0 4:0 4:0 4:262144 4:0 z262144 ] | 4:0 4:0 4:262142 4:0 z262142 | -
 section ethernet [3 4:1 x07 ] big section [1 2:1 2:0 4:0 2:9 2:1 x09 ] [6 4:0 4:0 4:7 4:2 4:2 x0102 ] | 4:0 4:0 4:1 4:1 x07 4:0 4:7 4:2 4:2 x0102 | -
 big section ethernet [3 4:1 x07 ] little section [1 2:1 2:0 4:0 2:9 2:1 x09 ] [6 4:0 4:0 4:7 4:2 4:2 x0102 ] | 4:0 4:0 4:1 4:1 x07 4:0 4:7 4:2 4:2 x0102 | -
 [168627466 4:439041101 2:1 2:2 8:0 2:4 2:3 x616263 z1 2:0 2:0 ] ethernet [3 4:1 x07 ] | 4:0 4:0 4:1 4:1 x07 | -
@@ -139,39 +155,48 @@ fn files_are_read_so(rt: HostRuntime) {
     }
 }
 
-// The blocks of a file, and the link type that is told of it.
+// The blocks of a file; the link type that is told of its packets without bytes, and that of those with cooked headers.
 const LINK_TYPE_ROWS: &str = "\
-section [1 2:101 2:0 4:0 ] | -
-section [1 2:101 2:0 4:0 ] ethernet [1 2:276 2:0 4:0 ] [6 4:1 4:0 4:0 4:0 4:0 ] | -
-section [1 2:101 2:0 4:0 ] ethernet [1 2:276 2:0 4:0 ] [6 4:0 4:0 4:0 4:0 4:0 ] [6 4:2 4:0 4:0 4:0 4:0 ] | 101
-section [1 2:101 2:0 4:0 ] ethernet [1 2:276 2:0 4:0 ] [6 4:1 4:0 4:0 4:0 4:0 ] [6 4:2 4:0 4:0 4:0 4:0 ] | 276
-section [1 2:101 2:0 4:0 ] [3 4:9 z9 ] section [1 2:276 2:0 4:0 ] [3 4:9 z9 ] | 101
-section ethernet [3 4:1 x07 ] big section [1 2:276 2:0 4:0 ] [2 2:0 2:5 4:0 4:1 4:0 4:9 ] | 276
-section [1 2:276 2:0 4:0 ] [6 4:0 4:0 4:0 4:5 4:5 x01020304 ] | -
-section [1 2:276 2:0 4:0 ] [3 4:1 x07 ] [9 4:0 ]16/20 | 276
+section [1 2:101 2:0 4:0 ] | - | -
+section [1 2:101 2:0 4:0 ] ethernet [1 2:276 2:0 4:0 ] [6 4:1 4:0 4:0 4:0 4:0 ] | - | -
+section [1 2:101 2:0 4:0 ] ethernet [1 2:195 2:0 4:0 ] [6 4:0 4:0 4:0 4:0 4:0 ] [6 4:2 4:0 4:0 4:0 4:0 ] | 101 | -
+section [1 2:101 2:0 4:0 ] ethernet [1 2:195 2:0 4:0 ] [6 4:1 4:0 4:0 4:0 4:0 ] [6 4:2 4:0 4:0 4:0 4:0 ] | 195 | -
+section [1 2:101 2:0 4:0 ] ethernet [1 2:276 2:0 4:0 ] [6 4:0 4:0 4:0 4:0 4:0 ] [6 4:2 4:0 4:0 4:0 4:0 ] | 101 | 276
+section [1 2:101 2:0 4:0 ] ethernet [1 2:276 2:0 4:0 ] [6 4:2 4:0 4:0 4:0 4:0 ] [6 4:0 4:0 4:0 4:0 4:0 ] | 101 | 276
+section [1 2:113 2:0 4:0 ] ethernet [1 2:276 2:0 4:0 ] [6 4:1 4:0 4:0 4:0 4:0 ] [6 4:2 4:0 4:0 4:0 4:0 ] | - | 276
+section [1 2:101 2:0 4:0 ] [3 4:9 z9 ] section [1 2:195 2:0 4:0 ] [3 4:9 z9 ] | 101 | -
+section [1 2:113 2:0 4:0 ] [3 4:9 z9 ] section [1 2:276 2:0 4:0 ] [3 4:9 z9 ] | - | 113
+section ethernet [3 4:1 x07 ] big section [1 2:195 2:0 4:0 ] [2 2:0 2:5 4:0 4:1 4:0 4:9 ] | 195 | -
+section ethernet [3 4:1 x07 ] big section [1 2:276 2:0 4:0 ] [2 2:0 2:5 4:0 4:1 4:0 4:9 ] | - | 276
+section [1 2:101 2:0 4:0 ] [6 4:0 4:0 4:0 4:5 4:5 x01020304 ] | - | -
+section [1 2:276 2:0 4:0 ] [6 4:0 4:0 4:0 4:5 4:5 x01020304 ] | - | -
+section [1 2:195 2:0 4:0 ] [3 4:1 x07 ] [9 4:0 ]16/20 | 195 | -
+section [1 2:276 2:0 4:0 ] [3 4:1 x07 ] [9 4:0 ]16/20 | - | 276
 ";
 
 fn link_type_of(text: &str) -> Option<u16> {
     text.parse().ok()
 }
 
-// Whether the link type is told of a file that comes in pieces of so many bytes.
-fn is_link_type_told(alloc: Global, file: &[u8], most: usize, link_type: &str) -> Option<bool> {
+// Whether both link types are told of a file that comes in pieces of so many bytes.
+fn are_link_types_told(alloc: Global, file: &[u8], most: usize, link_types: &str) -> Option<bool> {
+    let (other, cooked) = link_types.split_once(" | ")?;
     let most = most.max(1);
     let mut classic = Classic::new(alloc, Counted::new(Pieces::new(file, most))).ok()?;
     read_all(alloc, &mut classic).ok()?;
     let wanted = Remarks {
         refusal: classic.refusal(),
-        other_link_type: link_type_of(link_type),
+        other_link_type: link_type_of(other),
+        cooked_link_type: link_type_of(cooked),
     };
     Some(classic.remarks() == wanted)
 }
 
 fn link_type_answer(alloc: Global, row: &str) -> Option<bool> {
-    let (blocks, link_type) = row.split_once(" | ")?;
+    let (blocks, link_types) = row.split_once(" | ")?;
     let file = blocks_of(alloc, blocks)?;
-    let sips = is_link_type_told(alloc, file.as_slice(), 1, link_type)?;
-    let whole = is_link_type_told(alloc, file.as_slice(), 1 << 20, link_type)?;
+    let sips = are_link_types_told(alloc, file.as_slice(), 1, link_types)?;
+    let whole = are_link_types_told(alloc, file.as_slice(), 1 << 20, link_types)?;
     Some(sips && whole)
 }
 

@@ -1,5 +1,5 @@
-//! Tests of the survey of a capture and of drafts: by rows of text, over devices that go wrong, and against former ways to
-//! find packets and connections and to write times.
+//! Tests of the survey of a capture and of drafts: by rows of text, and over devices that go wrong; of packets as they were
+//! made, of more connections than are told apart, and of times.
 #![tactic(auto)]
 
 #[cfg(test)]

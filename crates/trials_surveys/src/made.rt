@@ -1,7 +1,6 @@
 //! Made records, for tests.
 use rasta_pdu::{Body, Channel, Endpoint, Kind, Params, PduParts, Side, encode};
 use std::alloc::Global;
-use trials_draws::Draws;
 use trials_rows::{RFC_WORDS, push_frame};
 
 const ANY_CHANNEL: Channel = Channel {
@@ -29,21 +28,6 @@ pub struct MadePdu {
     pub kind: Kind,
     pub number: u32,
     pub message_length: usize,
-}
-
-impl MadePdu {
-    /// Any PDU between these ends.
-    pub fn any(draws: &mut Draws, sender: u32, receiver: u32) -> Option<MadePdu> {
-        Some(MadePdu {
-            sender,
-            receiver,
-            code_length: draws.pick(&[0, 8, 16])?,
-            check_length: draws.pick(&[0, 2, 4])?,
-            kind: draws.pick(&Kind::ALL)?,
-            number: draws.below(4),
-            message_length: draws.below(40) as usize,
-        })
-    }
 }
 
 fn params_of(pdu: &MadePdu) -> Option<Params> {

@@ -116,11 +116,13 @@ const REFUSED: Format = Format::Pcapng(Remarks {
         at: 60,
     }),
     other_link_type: None,
+    cooked_link_type: None,
 });
 
 const WHOLE: Format = Format::Pcapng(Remarks {
     refusal: None,
     other_link_type: None,
+    cooked_link_type: None,
 });
 
 // Whether the text of a survey of the capture that is cut in its last record ends so, where its file was read in this format.
@@ -139,26 +141,37 @@ fn cut_capture_of_a_pcapng_file(rt: HostRuntime) {
     assert_eq!(rt; ends_so(rt.alloc(), WHOLE, end), Some(true));
 }
 
-// Whether the survey of a capture of no packets begins so, where its file has an interface of this link type.
-fn begins_so(alloc: Global, link_type: u16, begin: &str) -> Option<bool> {
+// Whether the survey of a capture of no packets begins so, where these link types are told of its file: of packets without
+// bytes, and of ones with cooked headers.
+fn begins_so(alloc: Global, other: Option<u16>, cooked: Option<u16>, begin: &str) -> Option<bool> {
     let (_, file) = file_of(alloc, "data plain", "-")?;
     let mut found = surveyed(alloc, &file, 7).ok()?;
     found.set_format(Format::Pcapng(Remarks {
         refusal: None,
-        other_link_type: Some(link_type),
+        other_link_type: other,
+        cooked_link_type: cooked,
     }));
     Some(text_of(alloc, &found)?.starts_with(begin.as_bytes()))
 }
 
 #[test]
 fn packets_of_other_link_types(rt: HostRuntime) {
+    let alloc = rt.alloc();
     let named = "records: 0\npackets of RaSTA: 0\nother records, passed over: 0\n\
-        an interface of this file has link type 276 (Linux cooked capture v2): its packets are of no connection\n\
+        an interface of this file has link type 101 (raw IP): its packets are of no connection\n\
         no packet of a RaSTA connection\n";
-    assert_eq!(rt; begins_so(rt.alloc(), 276, named), Some(true));
+    assert_eq!(rt; begins_so(alloc, Some(101), None, named), Some(true));
     let unnamed = "records: 0\npackets of RaSTA: 0\nother records, passed over: 0\n\
-        an interface of this file has link type 200: its packets are of no connection\n";
-    assert_eq!(rt; begins_so(rt.alloc(), 200, unnamed), Some(true));
+        an interface of this file has link type 200: its packets are of no connection\n\
+        an interface of this file has link type 276 (Linux cooked capture v2): its packets are read as Ethernet frames, \
+        with zeros for addresses that they lack\n\
+        no packet of a RaSTA connection\n";
+    assert_eq!(rt; begins_so(alloc, Some(200), Some(276), unnamed), Some(true));
+    let cooked = "records: 0\npackets of RaSTA: 0\nother records, passed over: 0\n\
+        an interface of this file has link type 113 (Linux cooked capture): its packets are read as Ethernet frames, with \
+        zeros for addresses that they lack\n\
+        no packet of a RaSTA connection\n";
+    assert_eq!(rt; begins_so(alloc, None, Some(113), cooked), Some(true));
 }
 
 // Whether a fault of a file in this format is told so.

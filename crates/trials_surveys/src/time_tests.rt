@@ -1,191 +1,72 @@
-//! Times, against the former way to write them, piece by piece.
-use itoa::Buffer;
-use jiff_core::civil::Date;
-use rasta_pcap::{CaptureTime, Counted, Fault, FractionUnit, Sink, write_all};
+//! Times, by the Gregorian calendar: the first seconds, the ends of an hour and of a day, those of February in leap years and
+//! others, the ends of some years, and the last seconds; with fractions of few and of many digits, also of more than the
+//! unit has.
+use rasta_pcap::{CaptureTime, Counted, FractionUnit};
 use seatmelon_survey::write_time;
 use std::alloc::Global;
-use trials_draws::Draws;
 
-// The beginning of 1970, in days from the calendar's first one.
-const EPOCH: u32 = 4_371_587;
+// Seconds since 1970, a fraction, its unit, and the text.
+const ROWS: &str = "\
+0 0 us 1970-01-01 00:00:00.000000
+1 1 us 1970-01-01 00:00:01.000001
+9 99999 us 1970-01-01 00:00:09.099999
+10 100000 us 1970-01-01 00:00:10.100000
+59 999999 us 1970-01-01 00:00:59.999999
+60 1000000 us 1970-01-01 00:01:00.1000000
+3599 99999999 us 1970-01-01 00:59:59.99999999
+3600 999999999 us 1970-01-01 01:00:00.999999999
+86399 4294967295 us 1970-01-01 23:59:59.4294967295
+86400 0 ns 1970-01-02 00:00:00.000000000
+31535999 1 ns 1970-12-31 23:59:59.000000001
+31536000 99999 ns 1971-01-01 00:00:00.000099999
+68169599 100000 ns 1972-02-28 23:59:59.000100000
+68169600 999999 ns 1972-02-29 00:00:00.000999999
+68255999 1000000 ns 1972-02-29 23:59:59.001000000
+68256000 99999999 ns 1972-03-01 00:00:00.099999999
+99791999 999999999 ns 1973-02-28 23:59:59.999999999
+99792000 4294967295 ns 1973-03-01 00:00:00.4294967295
+946684799 0 us 1999-12-31 23:59:59.000000
+946684800 1 us 2000-01-01 00:00:00.000001
+951782399 99999 us 2000-02-28 23:59:59.099999
+951782400 100000 us 2000-02-29 00:00:00.100000
+951868799 999999 us 2000-02-29 23:59:59.999999
+951868800 1000000 us 2000-03-01 00:00:00.1000000
+4102444799 99999999 us 2099-12-31 23:59:59.99999999
+4102444800 999999999 us 2100-01-01 00:00:00.999999999
+4107542399 4294967295 us 2100-02-28 23:59:59.4294967295
+4107542400 0 ns 2100-03-01 00:00:00.000000000
+2147483647 1 ns 2038-01-19 03:14:07.000000001
+2147483648 99999 ns 2038-01-19 03:14:08.000099999
+4294967294 100000 ns 2106-02-07 06:28:14.000100000
+4294967295 999999 ns 2106-02-07 06:28:15.000999999
+";
 
-// In seconds.
-const MINUTE: u32 = 60;
-
-const HOUR: u32 = 3600;
-
-const DAY: u32 = 86_400;
-
-const ZEROS: [u8; 9] = *b"000000000";
-
-// Writes a number with zeros before it, so that it has that many digits at least.
-fn write_digits<W: Sink>(writer: &mut W, n: u32, width: usize) -> Result<(), Fault> {
-    let mut buffer = Buffer::new();
-    let digits = buffer.format(n).as_bytes();
-    let missing = width.saturating_sub(digits.len()).min(ZEROS.len());
-    write_all(writer, &ZEROS[..missing])?;
-    write_all(writer, digits)
-}
-
-// How many digits the fraction of a second has.
-fn digits_of(unit: FractionUnit) -> usize {
-    match unit {
-        FractionUnit::Microseconds => 6,
-        FractionUnit::Nanoseconds => 9,
+fn unit_of(word: &str) -> Option<FractionUnit> {
+    match word {
+        "us" => Some(FractionUnit::Microseconds),
+        "ns" => Some(FractionUnit::Nanoseconds),
+        _ => None,
     }
 }
 
-fn write_date<W: Sink>(writer: &mut W, date: Date) -> Result<(), Fault> {
-    write_digits(writer, u32::from(date.year.unsigned_abs()), 4)?;
-    write_all(writer, b"-")?;
-    write_digits(writer, u32::from(date.month), 2)?;
-    write_all(writer, b"-")?;
-    write_digits(writer, u32::from(date.day), 2)
-}
-
-// Writes the time of day after so many seconds.
-fn write_time_of_day<W: Sink>(writer: &mut W, seconds: u32) -> Result<(), Fault> {
-    write_digits(writer, seconds / HOUR, 2)?;
-    write_all(writer, b":")?;
-    write_digits(writer, seconds % HOUR / MINUTE, 2)?;
-    write_all(writer, b":")?;
-    write_digits(writer, seconds % MINUTE, 2)
-}
-
-// Writes a time as it was written.
-fn write_former_time<W: Sink>(writer: &mut W, time: CaptureTime) -> Result<(), Fault> {
-    write_date(
-        writer,
-        Date::from_days_since_min(EPOCH + time.seconds / DAY),
-    )?;
-    write_all(writer, b" ")?;
-    write_time_of_day(writer, time.seconds % DAY)?;
-    write_all(writer, b".")?;
-    write_digits(writer, time.fraction, digits_of(time.unit))
-}
-
-fn text_of(alloc: Global, time: CaptureTime) -> Option<Vec<u8>> {
+// Whether the time of a row is written so.
+fn is_written_so(alloc: Global, row: &str) -> Option<bool> {
+    let (seconds, rest) = row.split_once(' ')?;
+    let (fraction, rest) = rest.split_once(' ')?;
+    let (unit, text) = rest.split_once(' ')?;
+    let time = CaptureTime {
+        seconds: seconds.parse().ok()?,
+        fraction: fraction.parse().ok()?,
+        unit: unit_of(unit)?,
+    };
     let mut writer = Counted::new(Vec::new(alloc));
     write_time(&mut writer, time).ok()?;
-    Some(writer.into_inner())
-}
-
-fn former_text_of(alloc: Global, time: CaptureTime) -> Option<Vec<u8>> {
-    let mut writer = Counted::new(Vec::new(alloc));
-    write_former_time(&mut writer, time).ok()?;
-    Some(writer.into_inner())
-}
-
-// Whether a time is written as it was.
-fn is_as_before(alloc: Global, time: CaptureTime) -> Option<bool> {
-    let text = text_of(alloc, time)?;
-    let former = former_text_of(alloc, time)?;
-    Some(!text.is_empty() && text.as_slice() == former.as_slice())
-}
-
-// Numbers of fractions that have few and many digits, also more than the unit has.
-const FRACTIONS: [u32; 9] = [
-    0,
-    1,
-    99_999,
-    100_000,
-    999_999,
-    1_000_000,
-    99_999_999,
-    999_999_999,
-    u32::MAX,
-];
-
-// Whether these seconds are written as they were, with each fraction in each unit.
-fn are_as_before(alloc: Global, seconds: u32) -> Option<bool> {
-    for unit in [FractionUnit::Microseconds, FractionUnit::Nanoseconds] {
-        for fraction in FRACTIONS {
-            let time = CaptureTime {
-                seconds,
-                fraction,
-                unit,
-            };
-            if !is_as_before(alloc, time)? {
-                return Some(false);
-            }
-        }
-    }
-    Some(true)
-}
-
-// The first seconds, the ends of an hour and of a day, those of February in 1972, 1973, 2000 and 2100, the ends of
-// some years, and the last seconds.
-const SECONDS: [u32; 32] = [
-    0,
-    1,
-    9,
-    10,
-    59,
-    60,
-    3599,
-    3600,
-    86_399,
-    86_400,
-    31_535_999,
-    31_536_000,
-    68_169_599,
-    68_169_600,
-    68_255_999,
-    68_256_000,
-    99_791_999,
-    99_792_000,
-    946_684_799,
-    946_684_800,
-    951_782_399,
-    951_782_400,
-    951_868_799,
-    951_868_800,
-    4_102_444_799,
-    4_102_444_800,
-    4_107_542_399,
-    4_107_542_400,
-    2_147_483_647,
-    2_147_483_648,
-    4_294_967_294,
-    u32::MAX,
-];
-
-#[test]
-fn chosen_times_are_as_before(rt: HostRuntime) {
-    for seconds in SECONDS {
-        assert_eq!(rt;
-            are_as_before(rt.alloc(), seconds),
-            Some(true),
-            "at {seconds}"
-        );
-    }
-}
-
-// Of each day the first and the last second.
-#[test]
-fn days_are_as_before(rt: HostRuntime) {
-    for day in 0..=u32::MAX / DAY {
-        let first = day.wrapping_mul(DAY);
-        for seconds in [first, first.saturating_add(DAY - 1)] {
-            let time = CaptureTime {
-                seconds,
-                fraction: day,
-                unit: FractionUnit::Microseconds,
-            };
-            assert_eq!(rt; is_as_before(rt.alloc(), time), Some(true), "at {seconds}");
-        }
-    }
+    Some(writer.into_inner().as_slice() == text.as_bytes())
 }
 
 #[test]
-fn drawn_times_are_as_before(rt: HostRuntime) {
-    let mut draws = Draws::new(1);
-    for _ in 0..2000 {
-        let seconds = draws.below(u32::MAX);
-        assert_eq!(rt;
-            are_as_before(rt.alloc(), seconds),
-            Some(true),
-            "at {seconds}"
-        );
+fn times(rt: HostRuntime) {
+    for row in ROWS.lines() {
+        assert_eq!(rt; is_written_so(rt.alloc(), row), Some(true), "{row}");
     }
 }

@@ -1,6 +1,6 @@
 //! Captures of packets with Linux cooked headers, converted to Ethernet frames: layouts of both headers, written by hand.
 use rasta_pcap::devices::Pieces;
-use seatmelon_commands::{FramesTold, conversion_of};
+use seatmelon_commands::{CookedTold, FramesTold, conversion_of};
 use std::alloc::Global;
 use std::io::Read;
 use std::process::Abort;
@@ -12,7 +12,7 @@ struct Converted {
     text: &'static str,
 }
 
-const CONVERTED: [Converted; 4] = [
+const CONVERTED: [Converted; 5] = [
     // Lowest byte first, link type 113: a packet with its sender's address, one of the loopback device without any, and one
     // that was captured cut inside the cooked header.
     Converted {
@@ -63,15 +63,31 @@ const CONVERTED: [Converted; 4] = [
         wanted: b"\xd4\xc3\xb2\xa1\x02\x00\x04\x00\x00\x00\x00\x00\x00\x00\x00\x00\x00\x00\x04\x00\x71\x00\x00",
         text: "",
     },
+    // A pcapng file with an interface of link type 113.
+    Converted {
+        file: b"\x0a\x0d\x0d\x0a\x1c\x00\x00\x00\x4d\x3c\x2b\x1a\x01\x00\x00\x00\
+        \xff\xff\xff\xff\xff\xff\xff\xff\x1c\x00\x00\x00\
+        \x01\x00\x00\x00\x14\x00\x00\x00\x71\x00\x00\x00\x00\x00\x00\x00\x14\x00\x00\x00\
+        \x06\x00\x00\x00\x34\x00\x00\x00\x00\x00\x00\x00\x00\x00\x00\x00\x07\x00\x00\x00\
+        \x14\x00\x00\x00\x18\x00\x00\x00\
+        \x00\x00\x00\x01\x00\x06\x0a\x0b\x0c\x0d\x0e\x0f\x00\x00\x08\x00\x45\x00\x00\x04\
+        \x34\x00\x00\x00",
+        wanted: b"\x4d\x3c\xb2\xa1\x02\x00\x04\x00\x00\x00\x00\x00\x00\x00\x00\x00\x00\x00\x04\x00\x01\x00\x00\x00\
+        \x00\x00\x00\x00\x58\x1b\x00\x00\x12\x00\x00\x00\x16\x00\x00\x00\
+        \x00\x00\x00\x00\x00\x00\x0a\x0b\x0c\x0d\x0e\x0f\x08\x00\x45\x00\x00\x04",
+        text: "packets of link type 113 (Linux cooked capture) were written as Ethernet frames, with zeros for addresses \
+               that they lack",
+    },
 ];
 
 // Whether what is read is converted so.
 fn is_converted_so<D: Read + Drop>(alloc: Global, file: D, converted: &Converted) -> Option<bool> {
     let mut bytes = Vec::new(alloc);
     let conversion = conversion_of(alloc, "c", file, &mut bytes).ok()?;
-    let text = match conversion.frames {
-        Some(frames) => FramesTold(frames).to_string(alloc).ok()?,
-        None => String::new(alloc),
+    let text = match (conversion.frames, conversion.format.cooked_link_type()) {
+        (Some(frames), _) => FramesTold(frames).to_string(alloc).ok()?,
+        (None, Some(link_type)) => CookedTold(link_type).to_string(alloc).ok()?,
+        (None, None) => String::new(alloc),
     };
     Some(bytes.as_slice() == converted.wanted && text.as_str() == converted.text)
 }

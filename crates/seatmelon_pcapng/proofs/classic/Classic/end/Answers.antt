@@ -1,7 +1,7 @@
 use Rattle.std.proofs.Common.{◌<◌, ◌∙◌, length, subst, sym}
 use Rattle.seatmelon_pcapng.specs.Memory.{bytes_held, bytes_of}
 use Rattle.std.specs.Io.KnownBytes.{prepend_known}
-use Rattle.seatmelon_pcapng.specs.Sections.{interfaces_in, order_in, other_met}
+use Rattle.seatmelon_pcapng.specs.Sections.{interfaces_in, link_types_met, order_in}
 use Rattle.seatmelon_pcapng.proofs.Comings.{cut-known}
 use Rattle.seatmelon_pcapng.proofs.Staying.{remarks-none}
 use Rattle.seatmelon_pcapng.proofs.Ways.{empty_so, left-done, no_more, some_so}
@@ -26,5 +26,5 @@ returns-then-is_empty-clause-remarks g c =
     let old = c.args.self.now in
     let source = g.S.Source.remaining old.source in
     let nothing = sym c.bytes.ensures ∙ empty_so c.bytes.result.now (sym c.is_empty.ensures ∙ c.if-is_empty.true) in
-    remarks-none (other_met old.section) (order_in old.section) (interfaces_in old.section) old.at (prepend_known (bytes_of old.blocks) source) old.progress
+    remarks-none (link_types_met old.section) (order_in old.section) (interfaces_in old.section) old.at (prepend_known (bytes_of old.blocks) source) old.progress
     c.requires.reading (no_more (bytes_of old.blocks) source nothing c.requires.at_end)

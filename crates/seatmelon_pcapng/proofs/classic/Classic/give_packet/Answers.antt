@@ -5,12 +5,13 @@ use Rattle.std.specs.Io.KnownBytes.{prepend_known}
 use Rattle.seatmelon_pcapng.specs.Memory.{bytes_held, bytes_of}
 use Rattle.seatmelon_pcapng.specs.Readings.{next_of, packet_bytes, packet_in}
 use Rattle.seatmelon_pcapng.specs.Readings.Next.{goes}
-use Rattle.seatmelon_pcapng.specs.Sections.{interfaces_in, order_in, other_met}
+use Rattle.seatmelon_pcapng.specs.Sections.{interfaces_in, link_types_met, order_in}
 use Rattle.seatmelon_pcapng.specs.declared.block.Turn.TheVariants.{Packet}
 use Rattle.seatmelon_pcapng.specs.declared.coming.Coming.TheVariants.{Block}
 use Rattle.seatmelon_pcapng.specs.declared.order.Order.TheVariants.{Little}
 use Rattle.seatmelon_pcapng.proofs.Comings.{block-there, tells-same, told-known}
-use Rattle.seatmelon_pcapng.proofs.Staying.{met-none, remarks-gone}
+use Rattle.seatmelon_pcapng.proofs.LinkTypeLemmas.{first_of-none}
+use Rattle.seatmelon_pcapng.proofs.Staying.{remarks-gone}
 use Rattle.seatmelon_pcapng.proofs.Ways.{left-given, left-gone}
 use Rattle.seatmelon_pcapng.proofs.classic.Classic.give_packet.Goals as goal
 
@@ -72,6 +73,6 @@ returns-then-size-gt0-clause-remarks g c =
     let tells = tells-same (Some Little) order c.interfaces.result.now interfaces c.bytes-bytes.result.now bytes (Block front (Packet found))
     c.requires.2 (sym c.interfaces.ensures) (sym c.bytes-bytes.ensures) c.in-Some.ensures in
     let next = told-known (λ rest. next_of (state_with old rest) ≡ goes front (Packet found)) bytes (remaining old.source) (tells.0 old.at) in
-    remarks-gone (other_met old.section) order interfaces old.at bytes (remaining old.source) old.progress front (Packet found) c.requires.1 next
+    remarks-gone (link_types_met old.section) order interfaces old.at bytes (remaining old.source) old.progress front (Packet found) c.requires.1 next
     (block-there order interfaces bytes front (Packet found) tells).1
-    (other_met old.section) order interfaces ((old.at + front.len) % 2 ^ 64) (bytes_of c.pass.new.self) (met-none (other_met old.section)) refl refl refl c.pass.ensures
+    (link_types_met old.section) order interfaces ((old.at + front.len) % 2 ^ 64) (bytes_of c.pass.new.self) (first_of-none (link_types_met old.section)) refl refl refl c.pass.ensures

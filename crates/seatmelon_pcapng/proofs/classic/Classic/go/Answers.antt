@@ -2,7 +2,7 @@ use Rattle.std.proofs.Common.{◌≡◌, ◌+◌, ◌%◌, ◌^◌, ◌++◌, re
 use Rattle.std.specs.List.{flat_map}
 use Rattle.seatmelon_pcapng.specs.Memory.{bytes_held, bytes_of}
 use Rattle.seatmelon_pcapng.specs.Readings.{packet_bytes, packets_in}
-use Rattle.seatmelon_pcapng.specs.Sections.{interfaces_in, order_in, other_met}
+use Rattle.seatmelon_pcapng.specs.Sections.{interfaces_in, link_types_met, order_in}
 use Rattle.seatmelon_pcapng.proofs.Staying.{remarks-gone}
 use Rattle.seatmelon_pcapng.proofs.Ways.{left-gone}
 use Rattle.seatmelon_pcapng.proofs.classic.Classic.go.Goals as goal
@@ -23,7 +23,7 @@ pub returns-clause-remarks : goal.returns-clause-remarks
 returns-clause-remarks g c =
     let old = c.args.self.now in
     let front = c.args.front in
-    remarks-gone (other_met old.section) (order_in old.section) (interfaces_in old.section) old.at (bytes_of old.blocks) (g.S.Source.remaining old.source) old.progress front c.args.turn.now
+    remarks-gone (link_types_met old.section) (order_in old.section) (interfaces_in old.section) old.at (bytes_of old.blocks) (g.S.Source.remaining old.source) old.progress front c.args.turn.now
     c.requires.reading c.requires.next c.requires.whole
-    (other_met c.pass.new.self) (order_in c.pass.new.self) (interfaces_in c.pass.new.self) ((old.at + front.len) % 2 ^ 64) (bytes_of c.pass-2.new.self)
-    c.in_ok-pass.ensures.other c.in_ok-pass.ensures.order c.in_ok-pass.ensures.interfaces refl c.pass-2.ensures
+    (link_types_met c.pass.new.self) (order_in c.pass.new.self) (interfaces_in c.pass.new.self) ((old.at + front.len) % 2 ^ 64) (bytes_of c.pass-2.new.self)
+    c.in_ok-pass.ensures.met c.in_ok-pass.ensures.order c.in_ok-pass.ensures.interfaces refl c.pass-2.ensures

@@ -1,7 +1,7 @@
 use Rattle.std.proofs.Common.{◌≡◌, ◌∙◌, [], ◌∷◌, ◌++◌, ap, sym}
 use Rattle.std.specs.Io.KnownBytes.{prepend_known}
 use Rattle.seatmelon_pcapng.specs.Memory.{bytes_held, bytes_of}
-use Rattle.seatmelon_pcapng.specs.Sections.{interfaces_in, order_in, other_met}
+use Rattle.seatmelon_pcapng.specs.Sections.{interfaces_in, link_types_met, order_in}
 use Rattle.seatmelon_pcapng.proofs.Staying.{remarks-met}
 use Rattle.seatmelon_pcapng.proofs.Ways.{left-refused, not_err_so}
 use Rattle.seatmelon_pcapng.proofs.classic.Classic.refuse.Goals as goal
@@ -19,5 +19,5 @@ pub returns-clause-remarks : goal.returns-clause-remarks
 returns-clause-remarks g c =
     let old = c.args.self.now in
     let known = prepend_known (bytes_of old.blocks) (g.S.Source.remaining old.source) in
-    remarks-met (other_met old.section) (order_in old.section) (interfaces_in old.section) old.at known old.progress c.args.reason
+    remarks-met (link_types_met old.section) (order_in old.section) (interfaces_in old.section) old.at known old.progress c.args.reason
     c.requires.reading c.requires.next
