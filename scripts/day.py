@@ -351,7 +351,9 @@ def pcapng_of_any(day, connection, number, parameters):
     told = f"an interface of this file has link type {number} ("
     counts = day.call("audit", day.path("converted.pcap"), parameters)
     answer = day.call("audit", capture, parameters)
-    is_same = answer[1].endswith(counts[1]) and answer[1].startswith(told)
+    lines = answer[1].splitlines()
+    others = [line for line in lines if not line.startswith(told)]
+    is_same = others == counts[1].splitlines() and len(lines) == len(others) + 1
     day.expect("read as frames", answer[0] == 0 and is_same, answer)
     answer = day.call("explain", capture, parameters)
     words = f"read as pcapng; an interface of it has link type {number} ("
