@@ -134,6 +134,16 @@ impl Store {
         SpanList::new(self, Side::Server)
     }
 
+    /// The sent list of an end.
+    pub fn list_of(&self, side: Side) -> SpanList<'_>
+        ensures { result ≡ sent_by self.now side }
+    {
+        match side {
+            Side::Client => self.client(),
+            Side::Server => self.server(),
+        }
+    }
+
     /// The sender and the redundancy number of the packet at a place.
     #[tactic(auto, using(crate::proofs::Internals::StoreLists::packet_read, crate::proofs::Internals::StoreLists::stored_packet))]
     pub fn packet(&self, place: u32) -> Option<(Side, u32)>

@@ -2,15 +2,12 @@
 ghost use Rattle.std.specs.Prelude.{◌≡◌, None, IfErr, IfOk};
 ghost use Rattle.rasta_pcap.specs.Fault.{no_memory, write_failed};
 
-use rasta_pcap::{Buffered, Counted};
+use rasta_pcap::{BUFFER, Buffered, Counted};
 use rasta_pdu::Fault;
 use std::fs::File;
 use std::io;
 use std::io::{BufWriter, Printer, Read, Write};
 use std::rt::Files;
-
-// How many bytes of a capture are read at once, and how many of an answer written.
-const BUFFER: usize = 65_536;
 
 /// A file that is opened when it is first read: one that can't be opened is one that can't be read.
 #[derive(Drop)]

@@ -12,6 +12,7 @@ use crate::key_values::{has_keys_among, number, optional, value_at};
 use crate::quiet_table::quiet_of;
 use crate::start_words::start_words_in;
 use rasta_md4::START_WORDS;
+use rasta_pcap::MAX_RECORDS;
 use rasta_pdu::{Channel, Endpoint, Fault, Params, Quiet, are_distinct_routes};
 use std::alloc::Global;
 use toml::{Table, Value};
@@ -180,21 +181,19 @@ fn read_limits(table: &Table) -> Result<Limits, Fault>
     })
 }
 
-const MOST_RECORDS: u32 = 4_000_000_000;
-
 #[tactic(auto, unfolding(crate::specs::Keys::window_of))]
 fn read_window(table: &Table) -> Result<Window, Fault>
     ensures value { result ≡ window_of (table_view table.now) }
     ensures valid { IfOk result (λ w. IsWindow w.first_record w.last_record) }
 {
-    let first_record = optional(table, 9, "first_record", 1, MOST_RECORDS, 1)?;
+    let first_record = optional(table, 9, "first_record", 1, MAX_RECORDS, 1)?;
     let last_record = optional(
         table,
         10,
         "last_record",
         first_record,
-        MOST_RECORDS,
-        MOST_RECORDS,
+        MAX_RECORDS,
+        MAX_RECORDS,
     )?;
     Ok(Window {
         first_record,

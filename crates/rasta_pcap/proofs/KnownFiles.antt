@@ -1,13 +1,12 @@
 -- What a step of a reader says of a file that is known.
-use Rattle.std.proofs.Common.{◌≡◌, ◌∙◌, ℕ, zero, suc, ◌+◌, ◌-◌, ◌≤◌, List, [], ◌∷◌, ◌++◌, length, length-append, length-drop, length-take, min, take, drop, Option, Some, None, Ok, Err, refl, sym, ap, subst, arith}
+use Rattle.std.proofs.Common.{◌≡◌, ◌∙◌, ℕ, ◌+◌, ◌-◌, ◌≤◌, List, ◌++◌, length, length-append, length-drop, length-take, min, take, drop, Option, Some, None, Ok, Err, refl, sym, ap, subst, arith}
 use lib.Seq.{take-append-le, take-append_seam}
 use Rattle.std.specs.Io.KnownBytes.{Consumes, IsAtEnd}
 use Rattle.rasta_pcap.specs.declared.fault.Fault.{Fault}
 use Rattle.rasta_pcap.specs.declared.pcap.Endianness.{Endianness}
 use Rattle.rasta_pcap.specs.declared.time.CaptureTime.{CaptureTime}
 use Rattle.rasta_pcap.specs.declared.time.FractionUnit.{FractionUnit}
-use Rattle.rasta_pcap.specs.Capture.{FileCursor, Numbered, cursor_after, cursor_at, max_records, next, next_length, opening}
-use Rattle.rasta_pcap.specs.Captured.{captured_at, captured_from, captured_in, captured_opened, captured_step}
+use Rattle.rasta_pcap.specs.Capture.{FileCursor, Numbered, cursor_after, cursor_at, next, next_length, opening}
 use Rattle.rasta_pcap.specs.Stream.{MeetsEnd, Opens, ReadsRecord, RefusesHeader, RefusesRecord}
 use Rattle.rasta_pcap.specs.Times.{TellsTime, TellsUnit, time_of, unit_of}
 use Rattle.rasta_pcap.proofs.Headers.{opening-is_header}
@@ -124,32 +123,3 @@ pub known_refusal : (order : Endianness) (count : ℕ) (f : Fault) (file : List 
 known_refusal order count f file new h =
     let rest = rest_after file h.bytes new h.consumed in
     subst (λ l. next (cursor_at order l count) ≡ Err f) (sym rest.whole) (h.each rest.more (λ met. subst (λ (o : Option (List ℕ)). IsAtEnd o) rest.left (h.at_end met)))
-
--- ---- what was captured
-
-pub captured_from-record : (left : ℕ) (unit : FractionUnit) (c : FileCursor) (r : Numbered) → next c ≡ Ok (Some r)
-    → captured_from (suc left) unit c ≡ captured_at unit c r ∷ captured_from left unit (cursor_after c)
-unfolding captured_from
-captured_from-record left unit c r h = ap (λ o. captured_step unit c o (captured_from left unit (cursor_after c))) h
-
-pub captured_from-end : (left : ℕ) (unit : FractionUnit) (c : FileCursor) → next c ≡ Ok None → captured_from left unit c ≡ []
-unfolding captured_from
-captured_from-end zero unit c h = refl
-captured_from-end (suc left) unit c h = ap (λ o. captured_step unit c o (captured_from left unit (cursor_after c))) h
-
-pub captured_from-fault : (left : ℕ) (unit : FractionUnit) (c : FileCursor) (f : Fault) → next c ≡ Err f → captured_from left unit c ≡ []
-unfolding captured_from
-captured_from-fault zero unit c f h = refl
-captured_from-fault (suc left) unit c f h = ap (λ o. captured_step unit c o (captured_from left unit (cursor_after c))) h
-
-pub captured_from-none_left : (unit : FractionUnit) (c : FileCursor) → captured_from zero unit c ≡ []
-unfolding captured_from
-captured_from-none_left unit c = refl
-
-pub captured_in-opened : (file : List ℕ) (c : FileCursor) → opening file ≡ Ok c → captured_in file ≡ captured_from max_records (unit_of c.order (take 24 file)) c
-unfolding captured_in
-captured_in-opened file c h = ap (captured_opened file) h
-
-pub captured_in-refused : (file : List ℕ) (f : Fault) → opening file ≡ Err f → captured_in file ≡ []
-unfolding captured_in
-captured_in-refused file f h = ap (captured_opened file) h

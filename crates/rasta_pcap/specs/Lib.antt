@@ -12,3 +12,4 @@ pub mod Times
 pub mod Stream
 pub mod Reader
 pub mod Buffered
+pub mod Walk

@@ -11,6 +11,9 @@ use crate::fault::Fault;
 use std::alloc::Global;
 use std::io;
 
+/// How many bytes of a capture are mostly read at once, and of an answer written.
+pub const BUFFER: usize = 65_536;
+
 // Bytes that were read and not yet given: `memory[start..end]`.
 #[derive(Drop)]
 pub struct Held {

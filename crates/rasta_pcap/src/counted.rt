@@ -149,6 +149,20 @@ impl<S: Source> Source for &mut S {
     }
 }
 
+impl<S: Sink> Sink for &mut S {
+    ghost contents = { λ s. S.contents s.now };
+
+    ghost failure_count = { λ s. S.failure_count s.now };
+
+    fn write(&mut self, buf: &[u8]) -> io::Result<usize> {
+        Sink::write(&mut **self, buf)
+    }
+
+    fn failures(&self) -> u64 {
+        Sink::failures(&**self)
+    }
+}
+
 /// All bytes up to the end of input.
 ///
 /// Refused by [`Fault::NO_MEMORY`] and [`Fault::READ_FAILED`]; nothing is handed out then.

@@ -4,6 +4,7 @@ ghost use Rattle.std.specs.List.{range_with_len};
 ghost use Rattle.rasta_pcap.specs.declared.fault.Fault.{Fault};
 ghost use Rattle.rasta_pcap.specs.declared.pcap.Endianness.{Endianness};
 ghost use Rattle.rasta_pcap.specs.Fault.{fault_at};
+ghost use Rattle.rasta_pcap.specs.Captured.{reading_as, walk_of};
 ghost use Rattle.rasta_pcap.specs.Capture.{FileCursor, IsHeader, IsCapture, IsRefusedFile, Numbered, max_records, opening, reading_of, bytes_of};
 
 /// A file is opened exactly where its first 24 bytes are a header that is read, and a header is
@@ -72,4 +73,9 @@ pub fn header_refusal_is_read()
 pub fn records_are_numbered()
     ensures { (limit : ℕ) (file : List ℕ) → let records = (reading_of limit file).records in
         map (λ (r : Numbered). r.0) records ≡ range_with_len 1 (length records) }
+{}
+
+/// A walk over the records of a file has the records of a reading, in the same order, and its fault.
+pub fn walk_is_reading()
+    ensures { (most : ℕ) (file : List ℕ) → reading_as (walk_of most file) ≡ reading_of most file }
 {}

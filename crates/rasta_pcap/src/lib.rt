@@ -10,10 +10,11 @@ pub mod laws;
 mod pcap;
 pub mod stream;
 mod time;
+pub mod walk;
 
-pub use buffered::Buffered;
+pub use buffered::{BUFFER, Buffered};
 pub use counted::{Counted, Sink, Source, read_all, write_all};
 pub use fault::{Fault, Side};
-pub use pcap::{Pcap, Record};
+pub use pcap::{MAX_RECORDS, Pcap, Record};
 pub use stream::Stream;
 pub use time::{CaptureTime, FractionUnit};

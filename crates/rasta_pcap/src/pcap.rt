@@ -26,7 +26,8 @@ pub(crate) const RECORD_HEADER: usize = 16;
 
 pub(crate) const MAX_CAPTURED: usize = 262_144;
 
-pub(crate) const MAX_RECORDS: u32 = 4_000_000_000;
+/// The most records of a capture.
+pub const MAX_RECORDS: u32 = 4_000_000_000;
 
 const MICROSECONDS: u32 = 0xa1b2_c3d4;
 

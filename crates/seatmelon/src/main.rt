@@ -10,10 +10,8 @@ mod version;
 use crate::version::write_version;
 use clap::Error;
 use clap::error::ErrorKind;
-use seatmelon_commands::{
-    Failure, convert_file, draft_file, explain_files, is_told, show_file, status, survey_file,
-    unwritten,
-};
+use seatmelon_commands::{convert_file, draft_file, explain_files, show_file, survey_file};
+use seatmelon_failures::{DeviceFailure, Failure, WordsFailure, WordsOrMemory, unwritten};
 use seatmelon_many::{audit_files, draft_all};
 use seatmelon_words::{Request, parse};
 use std::io;
@@ -23,21 +21,24 @@ use std::rt::{Env, Files};
 use std::time::Clock;
 
 // The words after the program's name.
-fn words<R: AllocGlobal + Env>(rt: &R) -> Result<Vec<String>, Failure> {
+fn words<R: AllocGlobal + Env>(rt: &R) -> Result<Vec<String>, WordsOrMemory> {
     match std::env::args(rt) {
         Ok(words) => words
             .skip(1)
             .collect(rt.alloc())
-            .map_err(|_| Failure::OutOfMemory),
-        Err(error) if error.kind() == io::ErrorKind::OutOfMemory => Err(Failure::OutOfMemory),
-        Err(_) => Err(Failure::Arguments),
+            .map_err(|_| WordsOrMemory::OutOfMemory),
+        Err(error) if error.kind() == io::ErrorKind::OutOfMemory => Err(WordsOrMemory::OutOfMemory),
+        Err(_) => Err(WordsOrMemory::Words(WordsFailure::Arguments)),
     }
 }
 
 // Help and the version, on standard output, or what is wrong with the words.
-fn tell<R: AllocGlobal + Files + Print + Eprint>(rt: &R, error: &Error) -> Result<u8, Failure> {
+fn tell<R: AllocGlobal + Files + Print + Eprint>(
+    rt: &R,
+    error: &Error,
+) -> Result<u8, DeviceFailure> {
     let written = match error.kind() {
-        ErrorKind::OutOfMemory => return Err(Failure::OutOfMemory),
+        ErrorKind::OutOfMemory => return Err(DeviceFailure::OutOfMemory),
         ErrorKind::DisplayHelp => error.print(rt),
         ErrorKind::DisplayVersion => write_version(rt),
         _ => {
@@ -58,27 +59,27 @@ fn run<R: AllocGlobal + Clock + Clone + Drop + Env + Eprint + Files + Input + Pr
     is_timed: bool,
 ) -> Result<u8, Failure> {
     let words = words(rt)?;
-    match parse(rt.alloc(), &words) {
-        Ok(Request::Survey(surveying)) => survey_file(rt, &surveying),
-        Ok(Request::Draft(drafting)) => draft_file(rt, &drafting),
-        Ok(Request::DraftAll(drafting)) => draft_all(rt, &drafting),
-        Ok(Request::Audit(auditing)) => audit_files(rt, &auditing, is_timed),
-        Ok(Request::Show(showing)) => show_file(rt, &showing),
-        Ok(Request::Explain(explaining)) => explain_files(rt, &explaining, is_timed),
-        Ok(Request::Convert { capture }) => convert_file(rt, capture),
-        Err(error) => tell(rt, &error),
-    }
+    Ok(match parse(rt.alloc(), &words) {
+        Ok(Request::Survey(surveying)) => survey_file(rt, &surveying)?,
+        Ok(Request::Draft(drafting)) => draft_file(rt, &drafting)?,
+        Ok(Request::DraftAll(drafting)) => draft_all(rt, &drafting)?,
+        Ok(Request::Audit(auditing)) => audit_files(rt, &auditing, is_timed)?,
+        Ok(Request::Show(showing)) => show_file(rt, &showing)?,
+        Ok(Request::Explain(explaining)) => explain_files(rt, &explaining, is_timed)?,
+        Ok(Request::Convert { capture }) => convert_file(rt, capture)?,
+        Err(error) => tell(rt, &error)?,
+    })
 }
 
 fn main(rt: HostRuntime) -> ExitCode {
     match run(&rt, rt.stderr().is_terminal()) {
         Ok(code) => ExitCode::from(code),
         Err(failure) => {
-            if is_told(&failure) {
+            if failure.is_told() {
                 // Where standard error fails too, the status alone tells.
                 let _ = eprintln!(rt; "seatmelon: {failure}");
             }
-            ExitCode::from(status(&failure))
+            ExitCode::from(failure.status())
         }
     }
 }

@@ -23,6 +23,7 @@ use Rattle.seatmelon_account.specs.Starts.{start_in}
 use Rattle.seatmelon_account.specs.declared.account.Account.{Account}
 use Rattle.seatmelon_account.specs.declared.account.File.{File}
 use Rattle.seatmelon_account.specs.declared.account.Inputs.{Inputs}
+use Rattle.seatmelon_account.specs.declared.account.Texts.{Texts}
 use Rattle.seatmelon_account.specs.declared.account.Verdict.{Verdict}
 use Rattle.seatmelon_account.specs.declared.explained.Explained.{Explained}
 use Rattle.seatmelon_account.specs.declared.refusal.Refusal.{Refusal}
@@ -53,8 +54,12 @@ IsToldOf p k before refusal text verdicts.NoPackets = (refusal ≡ None) × (len
 IsToldOf p k before refusal text (verdicts.Refused told) = IsToldRefusal p k refusal text told
 IsToldOf p k before refusal text (verdicts.Explained e) = (refusal ≡ None) × IsToldExplained p k before text e
 
+-- the text of the certificate, where one was given
+abbrev pub certificate_in : Texts → Option (List ℕ)
+certificate_in texts = option_map (λ text. text.now) texts.certificate
+
 abbrev pub text_in : Inputs → Option (List ℕ)
-text_in i = option_map (λ text. text.now) i.texts.certificate
+text_in i = certificate_in i.texts
 
 abbrev pub sum_of : File → List ℕ
 sum_of file = file.sum
@@ -69,23 +74,14 @@ is_refused_behind_some r = is_some r.refusal && nat_lt 0 (length r.store.packets
 
 -- this is told of what was read
 pub record IsAccount (i : Inputs) (r : Reading) (a : Account) : Type 0 where
-  pub capture : (a.capture.name.now ≡ i.names.capture.now) × (a.capture.sum ≡ r.digest)
+  pub inputs : a.inputs.now ≡ i
+  pub reading : a.reading.now ≡ r
   pub parameters : (a.parameters.name.now ≡ i.names.parameters.now)
       × (a.parameters.sum ≡ sha256 i.texts.parameters.now)
   pub certificate : option_map sum_of a.certificate ≡ option_map sha256 (text_in i)
-  pub header : a.header ≡ r.header
-  pub format : a.format ≡ r.format
-  pub params : a.params.now ≡ i.params.now
-  pub without : a.without.now ≡ i.without.now
-  pub records : a.records ≡ r.notes.records
   pub bounded : IsSome a.window ↔ IsBounded i.params.now
   pub window : IfSome a.window (windows.IsToldOf i.params.now r.notes.records)
-  pub packets : a.packets.now ≡ r.notes.packets.items
   pub channels : a.channels.now ≡ take (length i.params.now.channels) r.notes.channels
-  pub before : a.before ≡ r.notes.before
-  pub behind : a.behind ≡ r.notes.behind
-  pub passed : a.passed ≡ r.notes.passed
-  pub times : a.times ≡ r.notes.times
   pub untimed : a.untimed ≡ length (filter is_untimed r.notes.packets.items)
   pub silences : AreSilences r a.silences
   pub opens : a.opens ≡ opens_first r.store.params (packets_in r)

@@ -9,6 +9,7 @@ pub mod Messages
 pub mod Middle
 pub mod Lives
 pub mod Offers
+pub mod Outcomes
 pub mod Refusals
 pub mod Rules
 pub mod Selection

@@ -1,10 +1,9 @@
 //! What is told of a capture.
-ghost use Rattle.std.specs.Prelude.{◌≡◌, ◌<◌, ◌^◌, ℕ, List, Option, nat_lt, take, None, length, is_some, option_map, IfErr, IfOk, IfSome};
+ghost use Rattle.std.specs.Prelude.{◌≡◌, ◌<◌, ℕ, List, Option, nat_lt, take, None, length, is_some, option_map, IfErr, IfOk, IfSome};
 ghost use Rattle.sha2.specs.Sha256.{sha256};
 ghost use Rattle.rasta_pcap.specs.Fault.{no_memory};
 ghost use Rattle.rasta_verdict.specs.declared.verdict.Verdict.TheVariants as verdicts;
 ghost use Rattle.rasta_verdict.specs.Given.{IsUnscripted, IsVerdictOn};
-ghost use Rattle.seatmelon_reading.specs.PassedOver.{total_of};
 ghost use Rattle.rasta_pcap.specs.declared.fault.Side.TheVariants.{Client, Server};
 ghost use Rattle.seatmelon_account.specs.Hypotheses.{IsHypothesis, IsSupposed, supposition_in};
 ghost use Rattle.seatmelon_account.specs.Account.{IsAccount, IsToldOf, is_refused_behind_some, most_in, text_in};
@@ -12,7 +11,6 @@ ghost use Rattle.seatmelon_account.specs.Messages.{IsDirection};
 ghost use Rattle.seatmelon_account.specs.Refusals.{TellsPlace};
 ghost use Rattle.seatmelon_account.specs.Starts.{start_in};
 
-use crate::crossed::list_of;
 use crate::explained::{Explained, start_of};
 use crate::hypothesis::{Hypothesis, hypothesis_of};
 use crate::lives::{EndSilences, watch_of};
@@ -24,12 +22,8 @@ use rasta_check::Store;
 use rasta_pcap::{Fault, Side};
 use rasta_pdu::Params;
 use rasta_verdict::judge_by;
-use seatmelon_capture::FileHeader;
 use seatmelon_middle::Course;
-use seatmelon_pcapng::Format;
-use seatmelon_reading::{
-    ChannelCount, PassedOver, Reading, Sighting, TimeNotes, Window, count_untimed, window_in,
-};
+use seatmelon_reading::{ChannelCount, Reading, Sighting, Window, count_untimed, window_in};
 use seatmelon_suppose::Supposition;
 use sha2::{Digest, Sha256};
 use std::alloc::Global;
@@ -86,43 +80,20 @@ pub enum Verdict<'a> {
 /// What was read, and the verdict with all that is told of it.
 #[derive(Drop)]
 pub struct Account<'a> {
-    pub capture: File<'a>,
+    /// What stands beside the capture.
+    pub inputs: &'a Inputs<'a>,
+
+    /// What was read.
+    pub reading: &'a Reading,
+
     pub parameters: File<'a>,
     pub certificate: Option<File<'a>>,
-
-    /// The header of the capture; none where its file is shorter, or begins with no magic number.
-    pub header: Option<FileHeader>,
-
-    /// In which format the capture was read, and what is told of a pcapng file beside its packets.
-    pub format: Format,
-
-    /// By what is judged.
-    pub params: &'a Params,
-
-    /// The records that are left out, by their rising numbers.
-    pub without: &'a [u32],
-
-    /// How many records were read.
-    pub records: u32,
 
     /// The window; none where no window is recorded.
     pub window: Option<Window>,
 
-    /// The packets of the connection in the window, by place.
-    pub packets: &'a [Sighting],
-
-    /// How many of these each recorded channel has.
+    /// How many packets of the connection in the window each recorded channel has.
     pub channels: &'a [ChannelCount],
-
-    /// How many packets of the recorded channels stand before the window, and how many behind it.
-    pub before: u64,
-    pub behind: u64,
-
-    /// How many records hold no packet of the recorded channels, by why.
-    pub passed: PassedOver,
-
-    /// What is noted of the times of capture. None of it is part of the verdict.
-    pub times: TimeNotes,
 
     /// How many packets of the connection have no time of capture, as a pcapng file may have them.
     pub untimed: u64,
@@ -153,11 +124,23 @@ pub struct Account<'a> {
 }
 
 impl<'a> Account<'a> {
-    /// How many records hold no packet of the recorded channels.
-    pub fn passed_over(&self) -> u64
-        ensures { total_of self.now.passed < 2 ^ 64 → result ≡ total_of self.now.passed }
+    /// Name and SHA-256 of the capture.
+    pub fn capture(&self) -> File<'a>
+        ensures named { result.name.now ≡ self.now.inputs.now.names.capture.now }
+        ensures summed { result.sum ≡ self.now.reading.now.digest }
     {
-        self.passed.total()
+        let inputs = self.inputs;
+        File {
+            name: inputs.names.capture,
+            sum: self.reading.digest,
+        }
+    }
+
+    /// The packets of the connection in the window, by place.
+    pub fn packets(&self) -> &'a [Sighting]
+        ensures { result.now ≡ self.now.reading.now.notes.packets.items }
+    {
+        self.reading.notes.packets.as_slice()
     }
 }
 
@@ -207,7 +190,7 @@ fn explained<'a>(
 {
     let store = &reading.store;
     let report = &explanation.report;
-    let (client, server) = (list_of(store, Side::Client), list_of(store, Side::Server));
+    let (client, server) = (store.list_of(Side::Client), store.list_of(Side::Server));
     Ok(Explained {
         packets: report.packets,
         has_code: params.code_length() > 0,
@@ -309,7 +292,7 @@ fn hypothesis_in<'a>(
 /// alone.
 pub fn account_of<'a>(
     alloc: Global,
-    inputs: &Inputs<'a>,
+    inputs: &'a Inputs<'a>,
     reading: &'a Reading,
     supposition: Option<Supposition>,
 ) -> Result<Account<'a>, Fault>
@@ -326,24 +309,12 @@ pub fn account_of<'a>(
     let verdict = verdict_on(alloc, inputs, reading)?;
     let watch = watch_of(reading);
     Ok(Account {
-        capture: File {
-            name: names.capture,
-            sum: reading.digest,
-        },
+        inputs,
+        reading,
         parameters: file_of(names.parameters, texts.parameters),
         certificate: texts.certificate.map(|text| file_of(name, text)),
-        header: reading.header,
-        format: reading.format,
-        params: inputs.params,
-        without: inputs.without,
-        records: notes.records,
         window: window_in(inputs.params, notes.records),
-        packets: notes.packets.as_slice(),
         channels: channels_in(inputs.params, &notes.channels),
-        before: notes.before,
-        behind: notes.behind,
-        passed: notes.passed,
-        times: notes.times,
         untimed: count_untimed(notes.packets.as_slice()),
         silences: watch.silences(notes.last),
         opens: opens_first(reading),

@@ -1,7 +1,6 @@
 //! Packets that crossed.
 ghost use Rattle.std.specs.Prelude.{◌≡◌, option_map};
 ghost use Rattle.rasta_pdu.specs.Pdu.{value_of};
-ghost use Rattle.rasta_check.specs.Capture.Crossing.{sent_by};
 ghost use Rattle.seatmelon_account.specs.Crossed.{IsCrossedAt, has_opening, pdu_at};
 
 use rasta_check::{SentList, SpanList, Store};
@@ -16,16 +15,6 @@ pub struct Crossed<'a> {
     pub pdu: Option<Pdu<'a>>,
 }
 
-/// What an end sent.
-pub fn list_of(store: &Store, side: Side) -> SpanList<'_>
-    ensures { result ≡ sent_by store.now side }
-{
-    match side {
-        Side::Client => store.client(),
-        Side::Server => store.server(),
-    }
-}
-
 /// The PDU of an end at a place, if a first copy crossed there.
 pub fn pdu_at<'a>(list: &SpanList<'a>, place: u32) -> Option<Pdu<'a>>
     ensures { option_map value_of result ≡ pdu_at list.now place }
@@ -37,7 +26,7 @@ pub fn pdu_at<'a>(list: &SpanList<'a>, place: u32) -> Option<Pdu<'a>>
 
 /// The packet of an end that has a redundancy number first.
 pub fn first_with(store: &Store, side: Side, number: u32) -> Option<Crossed<'_>> {
-    let list = list_of(store, side);
+    let list = store.list_of(side);
     let (place, pdu) = list.get(list.position_of(number)?)?;
     let pdu = Some(pdu);
     Some(Crossed { side, place, pdu })
@@ -48,7 +37,7 @@ pub fn packet_at(store: &Store, place: u32) -> Option<Crossed<'_>>
     ensures { IsCrossedAt store.now place result }
 {
     let (side, _) = store.packet(place)?;
-    let pdu = pdu_at(&list_of(store, side), place);
+    let pdu = pdu_at(&store.list_of(side), place);
     Some(Crossed { side, place, pdu })
 }
 

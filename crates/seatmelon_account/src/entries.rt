@@ -3,7 +3,7 @@ ghost use Rattle.std.specs.Prelude.{◌≡◌, Some};
 ghost use Rattle.rasta_pcap.specs.declared.fault.Side.{Side};
 ghost use Rattle.seatmelon_account.specs.Entries.{IsEntry, line_of};
 
-use crate::crossed::{Crossed, first_with, list_of, pdu_at};
+use crate::crossed::{Crossed, first_with, pdu_at};
 use rasta_cert::{Certificate, Entry};
 use rasta_check::{SentList, Store};
 use rasta_pcap::{Fault, Side};
@@ -62,7 +62,7 @@ fn unmade_before<'a>(
     side: Side,
     number: u32,
 ) -> Option<Crossed<'a>> {
-    let (place, pdu) = list_of(store, side).get(makes_before(script, number))?;
+    let (place, pdu) = store.list_of(side).get(makes_before(script, number))?;
     let pdu = Some(pdu);
     Some(Crossed { side, place, pdu })
 }
@@ -74,7 +74,7 @@ fn named_by(store: &Store, side: Side, entry: Entry) -> Option<Crossed<'_>> {
         Entry::Make { index, .. } => Some(Crossed {
             side,
             place: index,
-            pdu: pdu_at(&list_of(store, side), index),
+            pdu: pdu_at(&store.list_of(side), index),
         }),
     }
 }

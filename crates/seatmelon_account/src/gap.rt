@@ -5,7 +5,7 @@ ghost use Rattle.rasta_check.specs.Capture.Crossing.{sent_by};
 ghost use Rattle.seatmelon_account.specs.Crossed.{has_opening};
 ghost use Rattle.seatmelon_account.specs.Gaps.{IsGap, IsLastOf};
 
-use crate::crossed::{has_opening, list_of};
+use crate::crossed::has_opening;
 use rasta_check::{SentList, SpanList, Store};
 use rasta_pcap::Side;
 use rasta_pdu::Fields;
@@ -103,7 +103,7 @@ pub fn gap_of(store: &Store, side: Side, datagram: &[u8], later: Option<Sighting
 {
     let fields = Fields::of(datagram);
     Some(Gap {
-        last: last_of(&list_of(store, side))?,
+        last: last_of(&store.list_of(side))?,
         found: fields.number?,
         sn_found: fields.sn,
         later,

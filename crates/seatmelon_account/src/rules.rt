@@ -5,7 +5,7 @@ ghost use Rattle.rasta_build.specs.Stopping.{IsMet};
 ghost use Rattle.seatmelon_account.specs.Crossed.{pdu_at};
 ghost use Rattle.seatmelon_account.specs.Rules.{IsBroken, IsDeadlineOf, TellsDeadline, TellsRule, deadline_by};
 
-use crate::crossed::{Crossed, first_with, list_of, pdu_at};
+use crate::crossed::{Crossed, first_with, pdu_at};
 use rasta_build::{Confirmation, Obstacle, Rule};
 use rasta_check::{SentList, SpanList, Store};
 use rasta_pcap::{Fault, Side};
@@ -138,7 +138,7 @@ fn broken_rule<'a>(store: &'a Store, met: &Obstacle) -> Option<BrokenRule<'a>>
     ensures broken { IfSome result (IsBroken store.now met.now) }
     ensures none { result ≡ None → pdu_at (sent_by store.now met.now.side) met.now.place ≡ None }
 {
-    let list = list_of(store, met.side);
+    let list = store.list_of(met.side);
     let pdu = pdu_at(&list, met.place)?;
     let peer = met.side.other();
     let found = found_in(met.rule, &pdu);

@@ -21,7 +21,7 @@ by_test : (a b : ℕ) (t : Bool) → ltb a b ≡ t → (a < b) ⊎ (b ≤ a)
 by_test a b true e = inl (ltb-true a b e)
 by_test a b false e = inr (ltb-false a b e)
 
-split : (a b : ℕ) → (a < b) ⊎ (b ≤ a)
+pub split : (a b : ℕ) → (a < b) ⊎ (b ≤ a)
 split a b = by_test a b (ltb a b) refl
 
 below_false : (a b : ℕ) → a ≡ b → ltb a b ≡ true → ⊥

@@ -8,7 +8,6 @@ mod Frames
 mod Holding
 mod Judging
 mod Knowing
-mod OnWay
 mod Places
 mod Readings
 mod Showing

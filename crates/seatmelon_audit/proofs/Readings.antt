@@ -1,31 +1,24 @@
 -- The steps of the reading for all connections.
-use Rattle.std.proofs.Common.{◌≡◌, ◌≢◌, ◌∙◌, ◌⊎◌, inl, inr, ℕ, suc, ◌+◌, ◌<◌, ◌≤◌, Bool, true, false, not, cond, List, [], ◌∷◌, ◌++◌, length, Option, None, Some, Result, Ok, Err, OnOk, IfSome, ap, refl, sym, subst, add-one, arith}
+use Rattle.std.proofs.Common.{◌≡◌, ◌∙◌, ◌⊎◌, ℕ, suc, ◌+◌, ◌<◌, ◌≤◌, Bool, true, false, not, cond, List, [], ◌∷◌, ◌++◌, length, Option, None, Some, IfSome, ap, refl, sym, subst, add-one, arith}
 use Rattle.std.proofs.lemmas.List.{length_push}
 use Rattle.std.specs.Io.KnownBytes.{prepend_known}
 use Rattle.rasta_pcap.specs.declared.buffered.Buffered.{Buffered}
 use Rattle.rasta_pcap.specs.declared.fault.Fault.{Fault}
-use Rattle.rasta_pcap.specs.declared.pcap.Endianness.{Endianness}
-use Rattle.rasta_pcap.specs.declared.stream.RecordReader.{RecordReader}
 use Rattle.rasta_pcap.specs.declared.time.CaptureTime.{CaptureTime}
-use Rattle.rasta_pcap.specs.declared.time.FractionUnit.{FractionUnit}
 use Rattle.rasta_pcap.specs.Buffered.{held_by, left_in, source_of}
-use Rattle.rasta_pcap.specs.Capture.{Numbered, cursor_at, max_records, next}
-use Rattle.rasta_pcap.specs.Captured.{Captured, captured_at, numbered}
-use Rattle.rasta_pcap.specs.Fault.{fault_at, no_memory, read_failed}
-use Rattle.rasta_pcap.specs.Stream.{FailsWithin, LacksMemory, MeetsEnd, Opens, ReadsRecord, RefusesHeader, RefusesRecord, count_in, order_in, room_in, unit_in}
-use Rattle.rasta_pcap.specs.Times.{TellsTime, TellsUnit}
-use Rattle.rasta_pcap.proofs.Headers.{opening-fault_place}
-use Rattle.rasta_pcap.proofs.KnownFiles.{known_end, known_header, known_header_refusal, known_record, known_refusal}
-use Rattle.rasta_pcap.proofs.Steps.{next-fault_place, next-is_next_entry}
+use Rattle.rasta_pcap.specs.Capture.{Numbered, max_records}
+use Rattle.rasta_pcap.specs.Captured.{Captured, numbered, walk_of}
+use Rattle.rasta_pcap.specs.Walk.{IsSeen, SeesNext}
+use Rattle.rasta_pcap.specs.Capture as captures
 use Rattle.rasta_pdu.specs.Params.{Parameters}
 use Rattle.seatmelon_reading.proofs.Filters.{length_filter-most, length_filter-push}
 use Rattle.seatmelon_audit.specs.All.{IsKnown, lines_in}
-use Rattle.seatmelon_audit.specs.Files.{IsOnWay}
+use Rattle.seatmelon_audit.specs.Files.{IsWhole}
 use Rattle.seatmelon_audit.specs.Lines.{AllTakeIn, TellsAny, params_of}
 use Rattle.seatmelon_audit.specs.Records.{is_any_held, others_in}
-use Rattle.seatmelon_audit.specs.Reading.{EndsReading, GoesOn, HasRead, IsReading, ReadsFile}
+use Rattle.seatmelon_audit.specs.Reading.{EndsReading, HasEnded, HasRead, IsReading, params_in}
 use Rattle.seatmelon_audit.specs.declared.reading.Reading.{Reading}
-use Rattle.seatmelon_audit.proofs.OnWay.{IsWhole, begun, one_read, whole_at_end, whole_at_fault, whole_at_header, whole_at_most}
+use Rattle.rasta_pcap.proofs.Walks.{seen_through, walk-is_reading}
 use Rattle.seatmelon_audit.proofs.Through.{all_ended_by, all_unended}
 
 -- ---- what was read
@@ -91,125 +84,39 @@ ended recorded file done f old new whole after ends h = record {
   fault = ends.kept ∙ whole.fault;
 }
 
--- ---- a reader's step
+-- ---- at the end
 
-on_way_as : (file : List ℕ) (o order : Endianness) (u unit : FractionUnit) (n count : ℕ) (rest : List ℕ) (done : List Captured) → order ≡ o → unit ≡ u → count ≡ n
-    → IsOnWay file o u n rest done → IsOnWay file order unit count rest done
-on_way_as file o order u unit n count rest done e f g on =
-    subst (λ x. IsOnWay file order unit x rest done) (sym g)
-    (subst (λ x. IsOnWay file order x n rest done) (sym f) (subst (λ x. IsOnWay file x u n rest done) (sym e) on))
+read_as : (recorded : List Parameters) (done : List Captured) (r : Reading) → params_in r ≡ recorded → HasRead (params_in r) done r → HasRead recorded done r
+read_as recorded done r same h = subst (λ (ps : List Parameters). HasRead ps done r) same h
 
-pub record_step : (recorded : List Parameters) (file : List ℕ) (old new : RecordReader) (before after : Option (List ℕ)) (reading more : Reading) (number : ℕ) (bytes : List ℕ) (time : Option CaptureTime)
-    → ReadsRecord (order_in old) (count_in old) (number, bytes) before after → TellsTime (order_in old) (unit_in old) time before after
-    → order_in new ≡ order_in old → unit_in new ≡ unit_in old → count_in new ≡ number → count_in old < max_records → TakesRecord reading more (number, bytes) time
-    → GoesOn recorded file old before reading → GoesOn recorded file new after more
-record_step recorded file old new before after reading more number bytes time read tells order unit count room takes on =
-    let r : Numbered = (number, bytes) in
-    let way = on.reader in
-    let rest = way.rest in
-    let c = cursor_at (order_in old) rest (count_in old) in
-    let reads = subst (λ (o : Option (List ℕ)). ReadsRecord (order_in old) (count_in old) r o after) way.known read in
-    let times = subst (λ (o : Option (List ℕ)). TellsTime (order_in old) (unit_in old) time o after) way.known tells in
-    let h = known_record (order_in old) (unit_in old) (count_in old) r time rest after reads times in
-    let one : r.0 ≡ count_in old + 1 = ap (λ (n : Numbered). n.0) (next-is_next_entry c r h.is).is in
-    let q = captured_at (unit_in old) c r in
-    let next : q.number ≡ suc (length on.done) = (let counted = way.on_way.counted in omega (arith, one, counted)) in
-    record {
-      done = on.done ++ q ∷ [];
-      reader = record {
-        rest = h.rest;
-        known = h.left;
-        on_way = on_way_as file (order_in old) (order_in new) (unit_in old) (unit_in new) number (count_in new) h.rest (on.done ++ q ∷ []) order unit count
-            (one_read file (order_in old) (unit_in old) (count_in old) rest on.done way.on_way r time after h);
-      };
-      read = read_more recorded on.done q reading more time next (let counted = way.on_way.counted in omega (arith, room, counted)) h.timed takes on.read;
-    }
+pub next_read : (old new : Reading) (r : Numbered) (time : Option CaptureTime) → TakesRecord old new r time → params_in new ≡ params_in old
+    → SeesNext (λ (reading : Reading) done. HasRead (params_in reading) done reading) old new r time
+next_read old new r time takes same done q is next short timed h =
+    read_as (params_in new) (done ++ q ∷ []) new refl
+    (subst (λ (ps : List Parameters). HasRead ps (done ++ q ∷ []) new) (sym same)
+    (read_more (params_in old) done q old new time (ap (λ (n : Numbered). n.0) is ∙ next) short timed (subst (λ (n : Numbered). TakesRecord old new n time) (sym is) takes) h))
 
-pub end_step : (recorded : List Parameters) (file : List ℕ) (old : RecordReader) (before after : Option (List ℕ)) (reading : Reading) → MeetsEnd before after
-    → GoesOn recorded file old before reading → IsReading recorded file reading
-end_step recorded file old before after reading meets on =
-    let way = on.reader in
-    all_read recorded file on.done reading
-    (whole_at_end file (order_in old) (unit_in old) (count_in old) way.rest on.done way.on_way
-    (known_end (order_in old) (count_in old) way.rest after (subst (λ (o : Option (List ℕ)). MeetsEnd o after) way.known meets)))
-    on.read
+walk_whole : (file : List ℕ) → IsWhole file (walk_of max_records file).records (walk_of max_records file).fault
+walk_whole file = record { captured = refl; fault = ap (λ (g : captures.Reading). g.fault) (walk-is_reading max_records file) }
 
--- why there was no record
-abbrev WhyNone : RecordReader → ℕ → Fault → ℕ → ℕ → Option (List ℕ) → Option (List ℕ) → Type 0
-WhyNone old most f old_count new_count before after = FailsWithin most f old_count new_count before after
-    ⊎ (LacksMemory (order_in old) (room_in old) f before after ⊎ RefusesRecord (order_in old) (count_in old) f before after)
-
-fault_place : (f : Fault) (place : ℕ) → f ≡ fault_at f.number place → f.place ≡ place
-fault_place f place e = ap (λ (g : Fault). g.place) e
-
-pub fault_step : (recorded : List Parameters) (file : List ℕ) (old : RecordReader) (most : ℕ) (f : Fault) (old_count new_count : ℕ) (before after : Option (List ℕ)) (reading more : Reading)
-    → WhyNone old most f old_count new_count before after → f ≢ no_memory → f ≢ read_failed → count_in old < max_records → EndsReading f reading more
-    → GoesOn recorded file old before reading → IsReading recorded file more
-fault_step recorded file old most f old_count new_count before after reading more (inl failed) memory read room ends on = absurd (read failed.0)
-fault_step recorded file old most f old_count new_count before after reading more (inr (inl lacks)) memory read room ends on = absurd (memory lacks.0)
-fault_step recorded file old most f old_count new_count before after reading more (inr (inr refuses)) memory read room ends on =
-    let way = on.reader in
-    let c = cursor_at (order_in old) way.rest (count_in old) in
-    let is = known_refusal (order_in old) (count_in old) f way.rest after (subst (λ (o : Option (List ℕ)). RefusesRecord (order_in old) (count_in old) f o after) way.known refuses) in
-    let place : f.place ≡ count_in old + 1 = fault_place f (count_in old + 1) (next-fault_place c f is) in
-    let counted = way.on_way.counted in
-    ended recorded file on.done f reading more (whole_at_fault file (order_in old) (unit_in old) (count_in old) way.rest on.done way.on_way f room is)
-    (inr (omega (arith, place, counted))) ends on.read
-
--- as many records as a capture can have
-pub most_read : (recorded : List Parameters) (file : List ℕ) (old : RecordReader) (before : Option (List ℕ)) (reading : Reading) → count_in old ≡ max_records
-    → GoesOn recorded file old before reading → IsReading recorded file reading
-most_read recorded file old before reading all on =
-    let way = on.reader in
-    all_read recorded file on.done reading (whole_at_most file (order_in old) (unit_in old) (count_in old) way.rest on.done way.on_way all) on.read
-
--- ---- the header
-
-header_read : (recorded : List Parameters) (file : List ℕ) (records : RecordReader) (after : Option (List ℕ)) (reading : Reading)
-    → Opens (order_in records) (Some file) after → TellsUnit (order_in records) (unit_in records) (Some file) after → count_in records ≡ 0
-    → HasRead recorded [] reading → GoesOn recorded file records after reading
-header_read recorded file records after reading opens tells none h =
-    let header = known_header (order_in records) (unit_in records) file after opens tells in record {
-      done = [];
-      reader = record {
-        rest = header.rest;
-        known = header.left;
-        on_way = on_way_as file (order_in records) (order_in records) (unit_in records) (unit_in records) 0 (count_in records) header.rest [] refl refl none
-            (begun file header.rest (order_in records) (unit_in records) header.is header.told);
-      };
-      read = h;
-    }
-
-pub capture_read : {A : Type 0} (input after : Option (List ℕ)) (records : RecordReader) (result : Result A Fault) (old new : Reading)
-    → Opens (order_in records) input after → TellsUnit (order_in records) (unit_in records) input after → count_in records ≡ 0
-    → ((recorded : List Parameters) (file : List ℕ) → GoesOn recorded file records after old → OnOk result (IsReading recorded file new))
-    → IfSome input (λ file. OnOk result (ReadsFile file old new))
-capture_read None after records result old new opens tells none read = tt
-capture_read (Some file) after records (Err f) old new opens tells none read = tt
-capture_read (Some file) after records (Ok x) old new opens tells none read =
-    λ recorded h. read recorded file (header_read recorded file records after old opens tells none h)
-
-header_refused : (file : List ℕ) (f : Fault) (most old_count new_count : ℕ) (after : Option (List ℕ)) (old new : Reading)
-    → FailsWithin most f old_count new_count (Some file) after ⊎ RefusesHeader f (Some file) after → f ≢ read_failed → EndsReading f old new → ReadsFile file old new
-header_refused file f most old_count new_count after old new (inl failed) read ends = absurd (read failed.0)
-header_refused file f most old_count new_count after old new (inr refuses) read ends = λ recorded h. (
-    let is = known_header_refusal f file after refuses in
-    ended recorded file [] f old new (whole_at_header file f is) (inl (fault_place f 0 (opening-fault_place file f is), refl)) ends h)
-
-pub capture_refused : {A : Type 0} (input after : Option (List ℕ)) (f : Fault) (most old_count new_count : ℕ) (result : Result A Fault) (old new : Reading)
-    → FailsWithin most f old_count new_count input after ⊎ RefusesHeader f input after → OnOk result ((f ≢ no_memory) × (f ≢ read_failed)) → OnOk result (EndsReading f old new)
-    → IfSome input (λ file. OnOk result (ReadsFile file old new))
-capture_refused None after f most old_count new_count result old new why told ends = tt
-capture_refused (Some file) after f most old_count new_count (Err e) old new why told ends = tt
-capture_refused (Some file) after f most old_count new_count (Ok x) old new why told ends = header_refused file f most old_count new_count after old new why told.1 ends
+-- all of a file was read
+pub file_seen : (recorded : List Parameters) (file : List ℕ) (r : Reading) → params_in r ≡ recorded
+    → IsSeen (λ (reading : Reading) done. HasRead (params_in reading) done reading) HasEnded (walk_of max_records file) r → IsReading recorded file r
+file_seen recorded file r same h =
+    seen_through (λ (reading : Reading) done. HasRead (params_in reading) done reading) HasEnded (λ records fault. IsWhole file records fault → IsReading recorded file r) r
+    (λ done read whole. all_read recorded file done r whole (read_as recorded done r same read))
+    (λ done f end whole. ended recorded file done f end.old r whole end.behind end.ends (read_as recorded done end.old (sym end.ends.params ∙ same) end.read))
+    (walk_of max_records file).records (walk_of max_records file).fault h (walk_whole file)
 
 -- ---- behind a buffer that holds nothing
 
-pub file_read : (input buffered : Option (List ℕ)) (recorded : List Parameters) (old new : Reading) → buffered ≡ input → HasRead recorded [] old
-    → IfSome buffered (λ file. ReadsFile file old new) → IfSome input (λ file. IsReading recorded file new)
-file_read None buffered recorded old new is h read = tt
-file_read (Some file) buffered recorded old new is h read =
-    (let some = subst (λ (o : Option (List ℕ)). IfSome o (λ (f : List ℕ). ReadsFile f old new)) is read in some recorded h)
+pub file_read : (input buffered : Option (List ℕ)) (recorded : List Parameters) (old new : Reading) → buffered ≡ input → HasRead (params_in old) [] old → params_in new ≡ recorded
+    → IfSome buffered (λ file. HasRead (params_in old) [] old → IsSeen (λ (reading : Reading) done. HasRead (params_in reading) done reading) HasEnded (walk_of max_records file) new)
+    → IfSome input (λ file. IsReading recorded file new)
+file_read None buffered recorded old new is begun same read = tt
+file_read (Some file) buffered recorded old new is begun same read =
+    let some = subst (λ (o : Option (List ℕ)). IfSome o (λ (f : List ℕ). HasRead (params_in old) [] old → IsSeen (λ (reading : Reading) done. HasRead (params_in reading) done reading) HasEnded (walk_of max_records f) new)) is read in
+    file_seen recorded file new same (some begun)
 
 nothing_held : (o : Option (List ℕ)) → prepend_known [] o ≡ o
 nothing_held None = refl

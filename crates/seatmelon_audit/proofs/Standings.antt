@@ -1,6 +1,5 @@
 -- A connection with one record more.
-use Rattle.std.proofs.Common.{◌≡◌, ◌∙◌, ◌⊎◌, inl, inr, ℕ, zero, suc, ◌-◌, ◌<◌, ◌≤◌, List, [], ◌∷◌, ◌++◌, length, map, cond, Bool, true, false, ◌&&◌, leb, nat_le, Option, None, Some, Result, Ok, Err, ap, refl, sym, subst, append-nil, arith}
-use Rattle.std.proofs.lemmas.Bool.{leb-true, leb-false}
+use Rattle.std.proofs.Common.{◌≡◌, ◌∙◌, ◌⊎◌, inl, inr, ℕ, zero, suc, ◌-◌, ◌<◌, ◌≤◌, List, [], ◌∷◌, ◌++◌, length, map, cond, Bool, true, false, ◌&&◌, nat_le, Option, None, Some, Result, Ok, Err, ap, refl, sym, subst, append-nil, arith}
 use Rattle.std.proofs.lemmas.Bool.Decides.{nat_tests}
 use Rattle.std.proofs.lemmas.List.{length_push, map-append, take-append-le, take_all}
 use Rattle.std.proofs.lemmas.List.Elements.{filter-append}
@@ -20,6 +19,7 @@ use Rattle.rasta_check.specs.declared.shown.Shown.{Shown}
 use Rattle.rasta_check.specs.declared.store_builder.StoreBuilder.{StoreBuilder}
 use Rattle.seatmelon_middle.specs.Packets.{opens_first}
 use Rattle.seatmelon_middle.specs.declared.course.Course.{Course}
+use Rattle.seatmelon_reading.proofs.Stored.{pushed}
 use Rattle.seatmelon_reading.proofs.Told.{record_place}
 use Rattle.rasta_check.specs.Capture.Building.{crossed_in}
 use Rattle.seatmelon_audit.specs.Lines.{IsJudged, IsLine, IsWithin, Passes, Stands, TakesIn}
@@ -30,6 +30,7 @@ use Rattle.seatmelon_audit.specs.declared.line.Span.{Span}
 use Rattle.seatmelon_audit.specs.declared.line.Stamp.{Stamp}
 use Rattle.seatmelon_audit.specs.declared.line.Standing.{Standing}
 use Rattle.seatmelon_audit.specs.declared.line.Standing.TheVariants.{OutOfMemory, Reading, Refused}
+use Rattle.seatmelon_audit.proofs.Knowing.{split}
 use Rattle.seatmelon_audit.proofs.Showing.{crossed_held, held_inside, held_none, opens_more}
 
 abbrev Outcome : Type 0
@@ -39,21 +40,6 @@ abbrev ok : Crossing → Outcome
 ok k = Ok k
 
 -- ---- what crosses by one record more
-
-ok_then : (s : Outcome) → then_crossing s (λ (n : Crossing). Ok n) ≡ s
-ok_then (Ok k) = refl
-ok_then (Err f) = refl
-
-then_then : (s : Outcome) (xs : List Numbered) (r : Numbered)
-    → ((n : Crossing) → after_records n (xs ++ r ∷ []) None ≡ then_crossing (after_records n xs None) (λ (m : Crossing). after_record m r))
-    → then_crossing s (λ (n : Crossing). after_records n (xs ++ r ∷ []) None) ≡ then_crossing (then_crossing s (λ (n : Crossing). after_records n xs None)) (λ (m : Crossing). after_record m r)
-then_then (Ok k) xs r h = h k
-then_then (Err f) xs r h = refl
-
-records_push : (xs : List Numbered) (r : Numbered) (k : Crossing) → after_records k (xs ++ r ∷ []) None ≡ then_crossing (after_records k xs None) (λ (n : Crossing). after_record n r)
-unfolding after_records
-records_push [] r k = ok_then (after_record k r)
-records_push (x ∷ xs) r k = then_then (after_record k x) xs r (records_push xs r)
 
 front : (q : Captured) (xs : List Captured) (i : ℕ) (x : Captured) → slice_get xs i ≡ Some x → slice_get (xs ++ q ∷ []) i ≡ Some x
 front q [] i x e = absurd cc
@@ -88,7 +74,7 @@ module _ (p : Parameters) (records : List Captured) (q : Captured) (next : q.num
       let size = length_push records q in
       ap (λ l. after_records (nothing_crossed p) (map numbered l) None) (take_all p.last_record all (omega (arith, next, inside, size)))
       ∙ ap (λ l. after_records (nothing_crossed p) l None) (map-append numbered records (q ∷ []))
-      ∙ records_push (map numbered records) (numbered q) (nothing_crossed p)
+      ∙ pushed (nothing_crossed p) (map numbered records) (numbered q)
       ∙ ap (λ l. then_crossing (after_records (nothing_crossed p) (map numbered l) None) (λ (n : Crossing). after_record n (numbered q)))
       (sym (take_all p.last_record records (omega (arith, next, inside))))
 
@@ -165,20 +151,16 @@ module _ (p : Parameters) (records : List Captured) (q : Captured) (next : q.num
 
   -- ---- a record that changes nothing
 
-  refused_by : (f : Fault) → crossed_by p records ≡ Err f → (q.number ≤ p.last_record) ⊎ (p.last_record < q.number) → crossed_by p all ≡ Err f
-  refused_by f e (inl inside) = crossed_inside inside ∙ ap (λ (s : Outcome). then_crossing s (λ (m : Crossing). after_record m (numbered q))) e
-  refused_by f e (inr behind) = crossed_behind behind ∙ e
-
-  by_test : (t : Bool) → leb q.number p.last_record ≡ t → (q.number ≤ p.last_record) ⊎ (p.last_record < q.number)
-  by_test true e = inl (leb-true q.number p.last_record e)
-  by_test false e = inr (leb-false q.number p.last_record e)
+  refused_by : (f : Fault) → crossed_by p records ≡ Err f → (p.last_record < q.number) ⊎ (q.number ≤ p.last_record) → crossed_by p all ≡ Err f
+  refused_by f e (inl behind) = crossed_behind behind ∙ e
+  refused_by f e (inr inside) = crossed_inside inside ∙ ap (λ (s : Outcome). then_crossing s (λ (m : Crossing). after_record m (numbered q))) e
 
   -- of one that changes neither what crossed nor its packets
   pub same_standing : (s : Standing) (k : Crossing) (packets : List Stamp) → (crossed_by p records ≡ Ok k → crossed_by p all ≡ Ok k) → holds_packet p q ≡ false → IsWithin s (length records)
       → IsStanding s (crossed_by p records) records p k packets → IsStanding s (crossed_by p all) all p k packets
   same_standing Reading k packets same none within h = (same h.0, h.1 ∙ sym (stamps_none none))
   same_standing (Refused refusal) k packets same none within h = (
-    refused_by refusal.fault h.0 (by_test (leb q.number p.last_record) refl),
+    refused_by refusal.fault h.0 (split p.last_record q.number),
     h.1 ∙ sym (subject_kept refusal.fault.place within),
     before_kept refusal.fault (omega (arith, within)) ∙ h.2,
     h.3 ∙ sym (stamps_none none),
@@ -195,7 +177,7 @@ module _ (p : Parameters) (records : List Captured) (q : Captured) (next : q.num
       → (s ≡ Reading → ⊥) → IsWithin s (length records) → IsStanding s (crossed_by p records) records p k old → IsStanding s (crossed_by p all) all p k new
   stopped_standing Reading k old new time timed inside pushed shut within h = absurd (shut refl)
   stopped_standing (Refused refusal) k old new time timed inside pushed shut within h = (
-    refused_by refusal.fault h.0 (by_test (leb q.number p.last_record) refl),
+    refused_by refusal.fault h.0 (split p.last_record q.number),
     h.1 ∙ sym (subject_kept refusal.fault.place within),
     before_kept refusal.fault (omega (arith, within)) ∙ h.2,
     pushed q.time timed ∙ ap (λ l. l ++ stamps_at p (numbered q) q.time) h.3 ∙ sym (stamps_inside inside),

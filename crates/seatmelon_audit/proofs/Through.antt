@@ -7,12 +7,11 @@ use Rattle.rasta_check.specs.Capture.Building.{crossed_in}
 use Rattle.rasta_check.specs.Capture.Crossing.{Crossing}
 use Rattle.rasta_check.specs.Capture.Reading.{then_crossing, at_end}
 use Rattle.seatmelon_audit.specs.Ends.{AreEnded, IsEnded, fault_behind}
-use Rattle.seatmelon_audit.specs.Files.{AreThrough, StandsThrough}
+use Rattle.seatmelon_audit.specs.Files.{AreThrough, IsWhole, StandsThrough}
 use Rattle.seatmelon_audit.specs.Lines.{AreLines, IsLine}
 use Rattle.seatmelon_audit.specs.Records.{IsStanding, crossed_by}
 use Rattle.seatmelon_audit.specs.declared.line.Line.{Line}
 use Rattle.seatmelon_audit.proofs.Files.{crossing_whole}
-use Rattle.seatmelon_audit.proofs.OnWay.{IsWhole}
 
 abbrev Outcome : Type 0
 Outcome = Result Crossing Fault

@@ -1,12 +1,9 @@
--- A known file on its way, and at its end. None of this speaks of how many connections there are: `AreLines done` says
+-- A known file at its end. None of this speaks of how many connections there are: `AreLines done` says
 -- what each stands at, and `crossing_whole` (proofs/Files.antt) leads from there to `crossing_of` of each.
-use Rattle.std.specs.Prelude.{◌≡◌, ℕ, ◌-◌, List, ◌++◌, length, slice_index_or, ◌<◌, Option, Some}
-use Rattle.rasta_pcap.specs.declared.pcap.Endianness.{Endianness}
-use Rattle.rasta_pcap.specs.declared.stream.RecordReader.{RecordReader}
-use Rattle.rasta_pcap.specs.declared.time.FractionUnit.{FractionUnit}
-use Rattle.rasta_pcap.specs.Capture.{cursor_at, max_records, reading, reading_of}
-use Rattle.rasta_pcap.specs.Captured.{Captured, captured_from, captured_in}
-use Rattle.rasta_pcap.specs.Stream.{count_in, order_in, unit_in}
+use Rattle.std.specs.Prelude.{◌≡◌, ℕ, List, length, slice_index_or, ◌<◌, Option}
+use Rattle.rasta_pcap.specs.Capture.{max_records, reading_of}
+use Rattle.rasta_pcap.specs.declared.fault.Fault.{Fault}
+use Rattle.rasta_pcap.specs.Captured.{Captured, captured_in}
 use Rattle.rasta_check.specs.Capture.Building.{crossed_in}
 use Rattle.rasta_check.specs.Capture.Reading.{crossing_of}
 use Rattle.seatmelon_middle.specs.Packets.{opens_first}
@@ -14,19 +11,10 @@ use Rattle.seatmelon_audit.specs.Records.{IsStanding, span_of, stamps_held}
 use Rattle.seatmelon_audit.specs.Shown.{IsShowing, packets_held}
 use Rattle.seatmelon_audit.specs.declared.line.Line.{Line}
 
--- the records so far, and those that are left, are those of the file, and its fault is that of what is left
-pub record IsOnWay (file : List ℕ) (order : Endianness) (unit : FractionUnit) (count : ℕ) (rest : List ℕ)
-    (done : List Captured) : Type 0 where
-  pub counted : length done ≡ count
-  pub captured : done ++ captured_from (max_records - count) unit (cursor_at order rest count) ≡ captured_in file
-  pub fault : (reading (max_records - count) (cursor_at order rest count)).fault ≡ (reading_of max_records file).fault
-
--- the input is known, and a reader stands so on the way
-pub record ReaderOnWay (file : List ℕ) (records : RecordReader) (input : Option (List ℕ))
-    (done : List Captured) : Type 0 where
-  pub rest : List ℕ
-  pub known : input ≡ Some rest
-  pub on_way : IsOnWay file (order_in records) (unit_in records) (count_in records) rest done
+-- what was read is all of the file, and this is its fault
+pub record IsWhole (file : List ℕ) (done : List Captured) (last : Option Fault) : Type 0 where
+  pub captured : done ≡ captured_in file
+  pub fault : last ≡ (reading_of max_records file).fault
 
 -- a connection stands as an audit of the file for it alone has it
 pub record StandsThrough (file : List ℕ) (l : Line) : Type 0 where

@@ -1,24 +1,14 @@
 //! A capture, read once for all connections.
-ghost use Rattle.std.specs.Prelude.{◌≡◌, ◌≢◌, ◌⊎◌, ◌↔◌, ◌<◌, ◌+◌, if◌then◌else◌, ◌^◌, ℕ, List, length, IsTrue, IfErr, IfOk, IfSome, OnOk};
+ghost use Rattle.std.specs.Prelude.{◌≡◌, ◌⊎◌, ◌<◌, ◌+◌, if◌then◌else◌, ◌^◌, length, IfErr, IfOk, IfSome};
 ghost use Rattle.rasta_pcap.specs.Capture.{max_records};
 ghost use Rattle.rasta_pcap.specs.Fault.{no_memory, read_failed};
-ghost use Rattle.rasta_pcap.specs.Stream.{count_in, progress_of};
-ghost use Rattle.rasta_pcap.specs.declared.stream.Progress.TheVariants.{Reading as StillReading};
-ghost use Rattle.rasta_pdu.specs.Params.{Parameters};
-ghost use Rattle.seatmelon_reading.specs.Passing.{ReadsOnIf};
-ghost use Rattle.seatmelon_audit.specs.Reading.{EndsReading, GoesOn, IsReading, ReadsFile, StepsTo, params_in};
+ghost use Rattle.seatmelon_audit.specs.Reading.{IsReading, params_in};
 
 use crate::lines::Lines;
-use rasta_pcap::stream::RecordReader;
-use rasta_pcap::{Buffered, Fault, Record, Source};
+use rasta_pcap::walk::{Visitor, walk};
+use rasta_pcap::{BUFFER, Buffered, CaptureTime, Fault, MAX_RECORDS, Record, Source};
 use rasta_pdu::Params;
 use std::alloc::Global;
-
-// How many bytes are read at once.
-const BUFFER: usize = 65_536;
-
-// The most records of a capture.
-const MOST_RECORDS: u32 = 4_000_000_000;
 
 /// What was read: how each connection stands, how many records there are, how many of them hold no packet of any of
 /// the connections in its window, and the fault that ended them.
@@ -41,86 +31,34 @@ fn count_other(others: u32, held: bool) -> u32
     }
 }
 
-// Keeps the fault that ended the reading. A lack of memory, and a failed read, are errors.
-fn end(reading: &mut Reading, fault: Fault) -> Result<(), Fault>
-    ensures ended { OnOk result (EndsReading fault reading.old reading.new) }
-    ensures told { OnOk result ((fault ≢ no_memory) × (fault ≢ read_failed)) }
-    ensures kept { params_in reading.new ≡ params_in reading.old }
-    ensures err { IfErr result (λ f. (f ≡ no_memory) ⊎ (f ≡ read_failed)) }
-{
-    if fault.is_failure() {
-        return Err(Fault::at(fault.number, 0));
-    }
-    reading.lines.end(fault);
-    reading.fault = Some(fault);
-    Ok(())
-}
+impl Visitor for Reading {
+    ghost use Rattle.std.proofs.Common.{refl, ◌∙◌};
+    ghost use Rattle.seatmelon_audit.specs.Reading.{HasEnded, HasRead};
 
-// Reads the next record; false where there is none, and where none can be read.
-fn read_record<S: Source>(
-    records: &mut RecordReader,
-    source: &mut S,
-    reading: &mut Reading,
-) -> Result<bool, Fault>
-    requires reading { progress_of records.old ≡ StillReading }
-    requires room { count_in records.old < max_records }
-    ensures step { (recorded : List Parameters) (file : List ℕ) → GoesOn recorded file records.old (S.remaining source.old) reading.old
-        → IfOk result (λ more. StepsTo more recorded file records.new (S.remaining source.new) reading.new) }
-    ensures on { IfOk result (λ more. ReadsOnIf more records.old records.new) }
-    ensures kept { params_in reading.new ≡ params_in reading.old }
-    ensures err { IfErr result (λ f. (f ≡ no_memory) ⊎ (f ≡ read_failed)) }
-{
-    match records.advance(source) {
-        Ok(Some(number)) => {
-            let bytes = records.buffer();
-            let held = reading.lines.add(&Record { number, bytes }, records.time());
-            reading.others = count_other(reading.others, held);
-            reading.records = number;
-            Ok(true)
-        }
-        Ok(None) => Ok(false),
-        Err(fault) => {
-            end(reading, fault)?;
-            Ok(false)
-        }
-    }
-}
+    ghost seen = { λ reading done. HasRead (params_in reading) done reading };
 
-// Reads the records of a capture, up to its end or to where no record can be read.
-fn read_records<S: Source>(
-    mut records: RecordReader,
-    source: &mut S,
-    reading: &mut Reading,
-) -> Result<(), Fault>
-    requires reading { progress_of records ≡ StillReading }
-    requires start { count_in records ≡ 0 }
-    ensures read { (recorded : List Parameters) (file : List ℕ) → GoesOn recorded file records (S.remaining source.old) reading.old
-        → OnOk result (IsReading recorded file reading.new) }
-    ensures kept { params_in reading.new ≡ params_in reading.old }
-    ensures err { IfErr result (λ f. (f ≡ no_memory) ⊎ (f ≡ read_failed)) }
-{
-    for _ in 0..MOST_RECORDS {
-        if !read_record(&mut records, source, reading)? {
-            break;
-        }
-    }
-    Ok(())
-}
+    ghost ended = { HasEnded };
 
-// Reads a capture, up to its end or to where no record can be read.
-fn read_capture<S: Source>(
-    alloc: Global,
-    source: &mut S,
-    reading: &mut Reading,
-) -> Result<(), Fault>
-    ensures read { IfSome (S.remaining source.old) (λ file. OnOk result (ReadsFile file reading.old reading.new)) }
-    ensures kept { params_in reading.new ≡ params_in reading.old }
-    ensures err { IfErr result (λ f. (f ≡ no_memory) ⊎ (f ≡ read_failed)) }
-{
-    match RecordReader::open(alloc, source) {
-        Ok(records) => read_records(records, source, reading),
-        Err(fault) => end(reading, fault),
+    ghost same = { λ old new. params_in new ≡ params_in old };
+
+    ghost refused = { λ fault. ⊥ };
+
+    fn visit(&mut self, found: &Record<'_>, time: Option<CaptureTime>) -> Result<(), Fault> {
+        let held = self.lines.add(found, time);
+        self.others = count_other(self.others, held);
+        self.records = found.number;
+        Ok(())
     }
+
+    fn end(&mut self, fault: Fault, _bytes: &[u8]) -> Result<(), Fault> {
+        self.lines.end(fault);
+        self.fault = Some(fault);
+        Ok(())
+    }
+
+    ghost same_always = { λ reading. refl };
+
+    ghost same_then = { λ a b c first next. next ∙ first };
 }
 
 /// Reads a capture once, up to its end or to where no record can be read.
@@ -144,6 +82,6 @@ pub fn read_all<R: Source>(
         fault: None,
     };
     let mut source = Buffered::new(alloc, reader, BUFFER)?;
-    read_capture(alloc, &mut source, &mut reading)?;
+    walk(alloc, &mut source, MAX_RECORDS, &mut reading)?;
     Ok(reading)
 }

@@ -5,12 +5,12 @@ use Rattle.seatmelon_account.specs.declared.account.Inputs as given
 use Rattle.seatmelon_commands.specs.Explained.{IsCaptureExplained, IsGivenFor, certificate_in}
 use Rattle.seatmelon_commands.specs.declared.explaining.Explaining.{Explaining}
 use Rattle.seatmelon_commands.specs.declared.explaining.Inputs.{Inputs}
-use Rattle.seatmelon_explain.specs.Outcomes as outcomes
-use Rattle.seatmelon_explain.specs.Outcomes.{IsFileExplained}
+use Rattle.seatmelon_account.specs.Account as accounts
+use Rattle.seatmelon_account.specs.Outcomes.{IsFileExplained}
 
 -- what is explained by what stands beside a capture is explained of the capture
 pub explained_given : (explaining : Explaining) (inputs : Inputs) (g : given.Inputs) (file : Option (List ℕ)) → IsGivenFor explaining inputs g
-    → IsFileExplained g.params.now g.without.now (outcomes.certificate_in g.texts) file → IsCaptureExplained explaining inputs file
+    → IsFileExplained g.params.now g.without.now (accounts.certificate_in g.texts) file → IsCaptureExplained explaining inputs file
 explained_given explaining inputs g file beside is_explained =
     subst (λ (p : Parameters). IsFileExplained p explaining.without.items (certificate_in inputs) file) beside.params
     (subst (λ (without : List ℕ). IsFileExplained g.params.now without (certificate_in inputs) file) beside.without

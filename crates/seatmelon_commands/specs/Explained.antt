@@ -1,8 +1,8 @@
 -- What an explanation says of a capture.
 use Rattle.std.specs.Prelude.{◌≡◌, ℕ, List, Option, option_map}
 use Rattle.seatmelon_account.specs.declared.account.Inputs as given
-use Rattle.seatmelon_explain.specs.Outcomes as outcomes
-use Rattle.seatmelon_explain.specs.Outcomes.{IsFileExplained}
+use Rattle.seatmelon_account.specs.Account as accounts
+use Rattle.seatmelon_account.specs.Outcomes.{IsFileExplained}
 use Rattle.seatmelon_commands.specs.declared.explaining.Explaining.{Explaining}
 use Rattle.seatmelon_commands.specs.declared.explaining.Inputs.{Inputs}
 
@@ -20,4 +20,4 @@ pub record IsGivenFor (explaining : Explaining) (inputs : Inputs) (g : given.Inp
   pub params : g.params.now ≡ inputs.params
   pub without : g.without.now ≡ explaining.without.items
   pub suppose : g.suppose ≡ explaining.suppose
-  pub certificate : outcomes.certificate_in g.texts ≡ certificate_in inputs
+  pub certificate : accounts.certificate_in g.texts ≡ certificate_in inputs

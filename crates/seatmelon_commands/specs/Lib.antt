@@ -1,9 +1,9 @@
+pub mod CaptureInput
 pub mod Conversions
 pub mod Converted
 pub mod Drafts
 pub mod Explained
 pub mod Failing
-pub mod FileKinds
 pub mod Formats
 pub mod Headers
 pub mod Shown

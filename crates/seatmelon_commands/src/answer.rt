@@ -1,13 +1,12 @@
 //! What the program writes.
-ghost use Rattle.std.specs.Prelude.{◌≡◌, IfErr};
-ghost use Rattle.seatmelon_commands.specs.Failing.{status_of};
 
-use crate::failure::Failure;
 use crate::output::{finish, output_to};
 use rasta_pcap::{Fault, Sink};
 use rasta_pdu::Params;
+use seatmelon_capture::write_fault;
+use seatmelon_failures::DeviceFailure;
 use seatmelon_pcapng::Format;
-use seatmelon_survey::{Connection, Survey, write_fault};
+use seatmelon_survey::{Connection, Survey};
 use seatmelon_text::write_words;
 use std::alloc::Global;
 use std::io::Write;
@@ -70,9 +69,7 @@ pub fn write_answer<W: Write + Drop>(
     name: &str,
     answer: &Answer<'_>,
     device: W,
-) -> Result<(), Failure>
-    ensures err { IfErr result (λ failure. status_of failure ≡ 3) }
-{
+) -> Result<(), DeviceFailure> {
     let mut output = output_to(alloc, device)?;
     let written = answer.write(&mut output);
     finish(alloc, name, output, written)

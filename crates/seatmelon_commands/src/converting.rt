@@ -4,18 +4,16 @@ ghost use Rattle.std.specs.Io.KnownBytes.{Appends};
 ghost use Rattle.rasta_pcap.specs.Fault.{no_memory, read_failed, write_failed};
 ghost use Rattle.seatmelon_pcapng.specs.Formats.{capture_of, format_of, refusal_told};
 ghost use Rattle.seatmelon_commands.specs.Conversions.{converted};
-ghost use Rattle.seatmelon_commands.specs.Failing.{status_of};
 
-use crate::failure::Failure;
-use crate::output::{STANDARD_OUTPUT, failed, finish, output_to};
-use crate::reading::{BUFFER, STANDARD_INPUT, unread};
+use crate::opening::open_capture;
+use crate::output::{failed, flushed, output_to};
 use crate::watched::Watched;
-use rasta_pcap::{Counted, Fault, Sink, Source, write_all};
+use rasta_pcap::{BUFFER, Counted, Fault, Sink, Source, write_all};
 use seatmelon_capture::link_type_name;
 use seatmelon_cooked::{Frames, write_ethernet};
+use seatmelon_failures::DeviceFailure;
 use seatmelon_pcapng::{Capture, Format, Peeked, Refusal};
 use std::alloc::Global;
-use std::fs::File;
 use std::io::{Input, Read, Write};
 use std::rt::Files;
 use std::{fmt, io};
@@ -123,22 +121,15 @@ pub fn conversion_of<D: Read + Drop, W: Write + Drop>(
     path: &str,
     file: D,
     device: W,
-) -> Result<Conversion, Failure>
-    ensures format { IfSome (D.remaining file) (λ bytes. IfOk result (λ c. c.format ≡ format_of bytes)) }
-    ensures err { IfErr result (λ failure. status_of failure ≡ 3) }
+) -> Result<Conversion, DeviceFailure>
+    ensures { IfSome (D.remaining file) (λ bytes. IfOk result (λ c. c.format ≡ format_of bytes)) }
 {
     let mut source = Counted::new(Watched::new(file));
     let mut output = output_to(alloc, device)?;
-    match convert_to_ethernet(alloc, &mut source, &mut output) {
-        Ok(conversion) => {
-            finish(alloc, STANDARD_OUTPUT, output, Ok(()))?;
-            Ok(conversion)
-        }
-        Err(fault) => {
-            let reader = source.into_inner();
-            let (writer, _) = output.into_inner().into_parts();
-            Err(failed(alloc, path, fault, reader.error(), writer.error()))
-        }
+    let conversion = convert_to_ethernet(alloc, &mut source, &mut output);
+    match flushed(output, conversion) {
+        Ok(conversion) => Ok(conversion),
+        Err(stopped) => Err(failed(alloc, path, stopped, source.into_inner().error())),
     }
 }
 
@@ -148,9 +139,8 @@ pub fn convert_of<D: Read + Drop, W: Write + Drop>(
     path: &str,
     file: D,
     device: W,
-) -> Result<Format, Failure>
-    ensures format { IfSome (D.remaining file) (λ bytes. IfOk result (λ f. f ≡ format_of bytes)) }
-    ensures err { IfErr result (λ failure. status_of failure ≡ 3) }
+) -> Result<Format, DeviceFailure>
+    ensures { IfSome (D.remaining file) (λ bytes. IfOk result (λ f. f ≡ format_of bytes)) }
 {
     match conversion_of(alloc, path, file, device) {
         Ok(conversion) => Ok(conversion.format),
@@ -162,17 +152,9 @@ pub fn convert_of<D: Read + Drop, W: Write + Drop>(
 fn convert_at<R: AllocGlobal + Files + Input + Print>(
     rt: &R,
     path: &str,
-) -> Result<Conversion, Failure>
-    ensures { IfErr result (λ failure. status_of failure ≡ 3) }
-{
-    let (alloc, device) = (rt.alloc(), io::writer(rt));
-    if path == STANDARD_INPUT {
-        return conversion_of(alloc, path, rt.reader(), device);
-    }
-    match File::open(rt, path) {
-        Ok(file) => conversion_of(alloc, path, file, device),
-        Err(error) => Err(unread(alloc, path, Some(error))),
-    }
+) -> Result<Conversion, DeviceFailure> {
+    let capture = open_capture(rt, path)?;
+    conversion_of(rt.alloc(), path, capture, io::writer(rt))
 }
 
 // Tells on standard error why a file was converted up to there alone.
@@ -257,9 +239,8 @@ pub fn status_of_format(format: Format) -> u8
 pub fn convert_file<R: AllocGlobal + Files + Input + Print + Eprint>(
     rt: &R,
     path: &str,
-) -> Result<u8, Failure>
-    ensures ok { IfOk result (λ status. status ≤ 1) }
-    ensures err { IfErr result (λ failure. status_of failure ≡ 3) }
+) -> Result<u8, DeviceFailure>
+    ensures { IfOk result (λ status. status ≤ 1) }
 {
     let Conversion { format, frames } = convert_at(rt, path)?;
     if let Some(frames) = frames {

@@ -2,16 +2,15 @@
 ghost use Rattle.std.specs.Prelude.{◌≡◌, ◌≤◌, true, false, IfErr, IfOk};
 ghost use Rattle.seatmelon_survey.specs.Survey.{connections_in};
 ghost use Rattle.seatmelon_commands.specs.Drafts.{IsAnswer, IsOutside, KeepsParams, has_ids_of, lacks_quiet_point};
-ghost use Rattle.seatmelon_commands.specs.Failing.{IsOfExplaining, TellsWords};
 
 use crate::answer::{Answer, Draft, write_answer};
-use crate::failure::{Failure, Refusal};
-use crate::file_kind::FileKind;
-use crate::output::STANDARD_OUTPUT;
-use crate::parameters::params_in;
 use crate::reading::whole_file;
 use crate::surveying::{status_of_survey, survey_at};
 use rasta_pdu::Params;
+use seatmelon_failures::{
+    Failure, FileKind, InputFailure, Refusal, STANDARD_OUTPUT, WordsFailure, WordsOrMemory,
+    params_in,
+};
 use seatmelon_survey::{Behind, Connection, Survey};
 use std::alloc::Global;
 use std::io;
@@ -43,26 +42,22 @@ fn behind_in(drafting: &Drafting<'_>) -> Option<Behind> {
 }
 
 // Why there is no draft of a connection.
-fn missing(alloc: Global, path: &str, number: u64, count: u64) -> Failure
-    ensures { TellsWords result }
-{
+fn missing(alloc: Global, path: &str, number: u64, count: u64) -> WordsOrMemory {
     match String::from_str(alloc, path) {
-        Ok(path) => Failure::NoConnection {
+        Ok(path) => WordsOrMemory::Words(WordsFailure::NoConnection {
             path,
             number,
             count,
-        },
-        Err(_) => Failure::OutOfMemory,
+        }),
+        Err(_) => WordsOrMemory::OutOfMemory,
     }
 }
 
 // Why recorded parameters aren't kept.
-fn of_others(alloc: Global, path: &str, number: u64) -> Failure
-    ensures { TellsWords result }
-{
+fn of_others(alloc: Global, path: &str, number: u64) -> WordsOrMemory {
     match String::from_str(alloc, path) {
-        Ok(path) => Failure::OtherIds { path, number },
-        Err(_) => Failure::OutOfMemory,
+        Ok(path) => WordsOrMemory::Words(WordsFailure::OtherIds { path, number }),
+        Err(_) => WordsOrMemory::OutOfMemory,
     }
 }
 
@@ -81,10 +76,9 @@ pub fn draft_in<'a>(
     path: &str,
     survey: &'a Survey,
     number: u64,
-) -> Result<Answer<'a>, Failure>
+) -> Result<Answer<'a>, WordsOrMemory>
     ensures ok { IfOk result (IsAnswer survey.now number) }
     ensures outside { IfErr result (λ _. IsOutside (connections_in survey.now) number) }
-    ensures err { IfErr result TellsWords }
 {
     let connections = survey.connections();
     let count = connections.len() as u64;
@@ -110,10 +104,9 @@ pub fn with_params<'a>(
     number: u64,
     draft: Draft<'a>,
     params: &'a Params,
-) -> Result<Draft<'a>, Failure>
+) -> Result<Draft<'a>, WordsOrMemory>
     ensures ok { IfOk result (λ d. KeepsParams draft.entry params.now d) }
     ensures others { IfErr result (λ _. has_ids_of params.now draft.entry.connection.now ≡ false) }
-    ensures err { IfErr result TellsWords }
 {
     if has_ids_of(params, draft.connection) {
         Ok(Draft {
@@ -136,9 +129,8 @@ fn answer_in<'a>(
     drafting: &Drafting<'_>,
     survey: &'a Survey,
     kept: Option<&'a Params>,
-) -> Result<Answer<'a>, Failure>
-    ensures ok { IfOk result (IsAnswer survey.now drafting.now.number) }
-    ensures err { IfErr result TellsWords }
+) -> Result<Answer<'a>, WordsOrMemory>
+    ensures { IfOk result (IsAnswer survey.now drafting.now.number) }
 {
     let number = drafting.number;
     let answer = draft_in(alloc, drafting.capture, survey, number)?;
@@ -157,17 +149,12 @@ fn answer_in<'a>(
 fn kept_params<R: AllocGlobal + Files>(
     rt: &R,
     drafting: &Drafting<'_>,
-) -> Result<Option<Params>, Failure>
-    ensures { IfErr result IsOfExplaining }
-{
+) -> Result<Option<Params>, InputFailure> {
     let Some(path) = parameters_in(drafting) else {
         return Ok(None);
     };
     let text = whole_file(rt, path)?;
-    match params_in(rt.alloc(), path, &text) {
-        Ok(params) => Ok(Some(params)),
-        Err(failure) => Err(failure),
-    }
+    Ok(Some(params_in(rt.alloc(), path, &text)?))
 }
 
 /// Tells on standard error that a capture isn't whole, since a draft mostly goes into a file.
@@ -203,7 +190,7 @@ pub fn draft_file<R: AllocGlobal + Files + Input + Print + Eprint>(
     rt: &R,
     drafting: &Drafting<'_>,
 ) -> Result<u8, Failure>
-    ensures ok { IfOk result (λ status. status ≤ 1) }
+    ensures { IfOk result (λ status. status ≤ 1) }
 {
     let kept = kept_params(rt, drafting)?;
     let survey = survey_at(rt, drafting.capture, behind_in(drafting))?;

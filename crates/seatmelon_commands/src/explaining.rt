@@ -1,25 +1,24 @@
 //! The command `explain`.
-ghost use Rattle.std.specs.Prelude.{◌≡◌, ◌≢◌, ◌≤◌, IfErr, IfOk, Ok};
-ghost use Rattle.seatmelon_explain.specs.Outcomes.{NamesRecord};
-ghost use Rattle.seatmelon_explain.specs.declared.explaining.Outcome.TheVariants.{Explained};
+ghost use Rattle.std.specs.Prelude.{◌≡◌, ◌≢◌, ◌≤◌, IfOk, Ok};
+ghost use Rattle.seatmelon_account.specs.Outcomes.{NamesRecord};
+ghost use Rattle.seatmelon_account.specs.declared.outcome.Outcome.TheVariants.{Explained};
 ghost use Rattle.seatmelon_commands.specs.Explained.{IsCaptureExplained, IsGivenFor};
-ghost use Rattle.seatmelon_commands.specs.Failing.{status_of, IsOfExplaining, TellsWords};
 
-use crate::certificate::judge_certificate;
-use crate::failure::Failure;
-use crate::file_kind::{FileKind, kind_of_start};
-use crate::output::failed;
-use crate::parameters::params_in;
-use crate::progress::{Progress, len_at};
-use crate::reading::{BUFFER, STANDARD_INPUT, unread, whole_file};
+use crate::explain::{Form, explain};
+use crate::opening::open_told;
+use crate::output::{failed, flushed, output_to};
+use crate::reading::whole_file;
 use crate::watched::Watched;
-use rasta_pcap::{Counted, Fault};
+use rasta_pcap::Counted;
 use rasta_pdu::Params;
-use seatmelon_explain::{Form, Names, Outcome, Texts, explain};
+use seatmelon_account::{Names, Outcome, Texts};
+use seatmelon_failures::{
+    DeviceFailure, FileKind, InputFailure, WordsFailure, WordsOrMemory, judge_certificate,
+    kind_of_start, params_in,
+};
 use std::alloc::Global;
-use std::fs::File;
 use std::io;
-use std::io::{BufWriter, Input, Read, Write};
+use std::io::{Input, Read, Write};
 use std::rt::Files;
 use std::time::Clock;
 
@@ -54,10 +53,10 @@ pub struct Explanation {
 }
 
 // What stands beside a capture that is to be explained.
-fn given<'a>(explaining: &'a Explaining<'_>, inputs: &'a Inputs) -> seatmelon_explain::Inputs<'a>
+fn given<'a>(explaining: &'a Explaining<'_>, inputs: &'a Inputs) -> seatmelon_account::Inputs<'a>
     ensures { IsGivenFor explaining.now inputs.now result }
 {
-    seatmelon_explain::Inputs {
+    seatmelon_account::Inputs {
         names: Names {
             capture: explaining.capture,
             parameters: explaining.parameters,
@@ -73,17 +72,6 @@ fn given<'a>(explaining: &'a Explaining<'_>, inputs: &'a Inputs) -> seatmelon_ex
     }
 }
 
-// What was written came to this, once all of it is out.
-fn flushed<W: Write>(outcome: Result<Outcome, Fault>, writer: &mut W) -> Result<Outcome, Fault>
-    ensures { IfOk result (λ o. outcome ≡ Ok o) }
-{
-    let outcome = outcome?;
-    match writer.flush() {
-        Ok(()) => Ok(outcome),
-        Err(_) => Err(Fault::at(Fault::WRITE_FAILED, 0)),
-    }
-}
-
 /// Explains the capture that a reader gives, and writes that to a device, all of it.
 pub fn explain_of<D: Read + Drop, W: Write + Drop>(
     alloc: Global,
@@ -91,43 +79,33 @@ pub fn explain_of<D: Read + Drop, W: Write + Drop>(
     inputs: &Inputs,
     file: D,
     device: W,
-) -> Result<Explanation, Failure>
+) -> Result<Explanation, DeviceFailure>
     // The records that stay have no fault, and the checker answers a report on what crossed by them.
-    ensures explained { IfOk result (λ e. e.outcome ≡ Explained → IsCaptureExplained explaining.now inputs.now (D.remaining file)) }
-    ensures err { IfErr result (λ failure. status_of failure ≡ 3) }
+    ensures { IfOk result (λ e. e.outcome ≡ Explained → IsCaptureExplained explaining.now inputs.now (D.remaining file)) }
 {
-    let Ok(buffered) = BufWriter::with_capacity(alloc, BUFFER, Watched::new(device)) else {
-        return Err(Failure::OutOfMemory);
-    };
     let mut source = Counted::new(Watched::new(file));
-    let mut sink = Counted::new(buffered);
+    let mut output = output_to(alloc, device)?;
     let given = given(explaining, inputs);
-    let outcome = explain(alloc, &given, explaining.form, &mut source, &mut sink);
-    let mut buffered = sink.into_inner();
-    let outcome = flushed(outcome, &mut buffered);
-    let source = source.into_inner();
-    let (device, _) = buffered.into_parts();
-    let path = explaining.capture;
-    match outcome {
+    let outcome = explain(alloc, &given, explaining.form, &mut source, &mut output);
+    let reader = source.into_inner();
+    match flushed(output, outcome) {
         Ok(outcome) => Ok(Explanation {
             outcome,
-            kind: kind_of_start(source.start()),
+            kind: kind_of_start(reader.start()),
         }),
-        Err(fault) => Err(failed(alloc, path, fault, source.error(), device.error())),
+        Err(stopped) => Err(failed(alloc, explaining.capture, stopped, reader.error())),
     }
 }
 
 // Why a capture isn't explained without a record that it doesn't have.
-fn no_record(alloc: Global, path: &str, number: u32, records: u32) -> Failure
-    ensures { TellsWords result }
-{
+fn no_record(alloc: Global, path: &str, number: u32, records: u32) -> WordsOrMemory {
     match String::from_str(alloc, path) {
-        Ok(path) => Failure::NoRecord {
+        Ok(path) => WordsOrMemory::Words(WordsFailure::NoRecord {
             path,
             number,
             records,
-        },
-        Err(_) => Failure::OutOfMemory,
+        }),
+        Err(_) => WordsOrMemory::OutOfMemory,
     }
 }
 
@@ -143,12 +121,11 @@ pub fn status_of_outcome(outcome: Outcome) -> u8
 }
 
 // The program's status after an explanation, or why none was written.
-fn status_after(alloc: Global, path: &str, outcome: Outcome) -> Result<u8, Failure>
+fn status_after(alloc: Global, path: &str, outcome: Outcome) -> Result<u8, WordsOrMemory>
     ensures ok { IfOk result (λ status. status ≤ 1) }
     ensures explained { outcome ≡ Explained → result ≡ Ok 0 }
     ensures other { IfOk result (λ status. outcome ≢ Explained → status ≡ 1) }
     ensures missing { NamesRecord outcome → IfOk result (λ _. ⊥) }
-    ensures err { IfErr result TellsWords }
 {
     match outcome {
         Outcome::NoRecord { number, records } => Err(no_record(alloc, path, number, records)),
@@ -162,21 +139,9 @@ fn explain_capture<R: AllocGlobal + Files + Input + Print + Eprint + Clock>(
     explaining: &Explaining<'_>,
     inputs: &Inputs,
     is_told: bool,
-) -> Result<Explanation, Failure>
-    ensures { IfErr result IsOfExplaining }
-{
-    let (alloc, path, device) = (rt.alloc(), explaining.capture, io::writer(rt));
-    if path == STANDARD_INPUT {
-        let input = Progress::new(rt, rt.reader(), None, is_told);
-        return explain_of(alloc, explaining, inputs, input, device);
-    }
-    match File::open(rt, path) {
-        Ok(file) => {
-            let file = Progress::new(rt, file, len_at(rt, path), is_told);
-            explain_of(alloc, explaining, inputs, file, device)
-        }
-        Err(error) => Err(unread(alloc, path, Some(error))),
-    }
+) -> Result<Explanation, DeviceFailure> {
+    let capture = open_told(rt, explaining.capture, is_told)?;
+    explain_of(rt.alloc(), explaining, inputs, capture, io::writer(rt))
 }
 
 /// Tells on standard error what else the capture seems to be.
@@ -194,9 +159,7 @@ pub fn advise<R: Eprint>(rt: &R, path: &str, kind: FileKind) {
 fn certificate_of<R: AllocGlobal + Files>(
     rt: &R,
     path: Option<&str>,
-) -> Result<Option<Vec<u8>>, Failure>
-    ensures { IfErr result IsOfExplaining }
-{
+) -> Result<Option<Vec<u8>>, InputFailure> {
     let Some(path) = path else {
         return Ok(None);
     };
@@ -209,9 +172,7 @@ fn certificate_of<R: AllocGlobal + Files>(
 fn read_inputs<R: AllocGlobal + Files>(
     rt: &R,
     explaining: &Explaining<'_>,
-) -> Result<Inputs, Failure>
-    ensures { IfErr result IsOfExplaining }
-{
+) -> Result<Inputs, InputFailure> {
     let parameters = whole_file(rt, explaining.parameters)?;
     let params = params_in(rt.alloc(), explaining.parameters, &parameters)?;
     let certificate = certificate_of(rt, explaining.certificate)?;
@@ -229,12 +190,11 @@ pub fn explain_files<R: AllocGlobal + Files + Input + Print + Eprint + Clock>(
     rt: &R,
     explaining: &Explaining<'_>,
     is_told: bool,
-) -> Result<u8, Failure>
-    ensures ok { IfOk result (λ status. status ≤ 1) }
-    ensures err { IfErr result IsOfExplaining }
+) -> Result<u8, InputFailure>
+    ensures { IfOk result (λ status. status ≤ 1) }
 {
     let inputs = read_inputs(rt, explaining)?;
     let explanation = explain_capture(rt, explaining, &inputs, is_told)?;
     advise(rt, explaining.capture, explanation.kind);
-    status_after(rt.alloc(), explaining.capture, explanation.outcome)
+    Ok(status_after(rt.alloc(), explaining.capture, explanation.outcome)?)
 }

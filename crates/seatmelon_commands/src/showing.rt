@@ -1,24 +1,22 @@
 //! The command `show`.
-ghost use Rattle.std.specs.Prelude.{◌≡◌, ◌<◌, ◌≤◌, IfErr, IfOk, IsSome, None, Ok, option_map};
+ghost use Rattle.std.specs.Prelude.{◌≡◌, ◌<◌, ◌≤◌, IfOk, IsSome, None, Ok, option_map};
 ghost use Rattle.seatmelon_pcapng.specs.Formats.{capture_of};
 ghost use Rattle.seatmelon_show.specs.Counted.{IsListingOf};
-ghost use Rattle.seatmelon_commands.specs.Failing.{IsOfFiles};
 ghost use Rattle.seatmelon_commands.specs.Shown.{IsChoiceOf, kinds_of};
 
-use crate::failure::Failure;
-use crate::output::unwritten;
-use crate::parameters::params_in;
-use crate::reading::{BUFFER, STANDARD_INPUT, unread, whole_file};
+use crate::opening::open_capture;
+use crate::output::{Stopped, flushed, output_to};
+use crate::reading::whole_file;
 use crate::surveying::refused;
 use crate::watched::Watched;
 use rasta_pcap::{Counted, Fault};
 use rasta_pdu::{Kind, Params};
 use seatmelon_capture::{FileHeader, Keeping};
+use seatmelon_failures::{CaptureFailure, Failure, params_in, unwritten};
 use seatmelon_show::{Choice, Listing, Types, list};
 use std::alloc::Global;
-use std::fs::File;
 use std::io;
-use std::io::{BufWriter, Input, Read, Write};
+use std::io::{Input, Read, Write};
 use std::rt::Files;
 
 /// What is to be listed: the paths of the files, and which packets.
@@ -56,31 +54,17 @@ fn choice_of<'a>(showing: &'a Showing<'_>) -> Choice<'a>
     }
 }
 
-// What was listed, once all of it is out.
-fn flushed<W: Write>(listing: Result<Listing, Fault>, writer: &mut W) -> Result<Listing, Fault>
-    ensures { IfOk result (λ l. listing ≡ Ok l) }
-{
-    let listing = listing?;
-    match writer.flush() {
-        Ok(()) => Ok(listing),
-        Err(_) => Err(Fault::at(Fault::WRITE_FAILED, 0)),
-    }
-}
-
-// Why a capture isn't listed to its end, by the fault, its header, and what is kept of its reader and of the writer.
-fn unlisted<D, W>(
+// Why a capture isn't listed to its end, with its header and what is kept of its reader.
+fn unlisted<D>(
     alloc: Global,
     path: &str,
-    fault: Fault,
+    stopped: Stopped,
     header: Option<FileHeader>,
     reader: &Watched<D>,
-    writer: &Watched<W>,
-) -> Failure
-    ensures { IsOfFiles result }
-{
-    match fault.number {
-        Fault::WRITE_FAILED => unwritten(alloc, writer.error()),
-        _ => refused(alloc, path, fault, header, reader),
+) -> CaptureFailure {
+    match stopped.fault.number {
+        Fault::WRITE_FAILED => unwritten(alloc, stopped.error).into(),
+        _ => refused(alloc, path, stopped.fault, header, reader),
     }
 }
 
@@ -93,24 +77,17 @@ pub fn show_of<D: Read + Drop, W: Write + Drop>(
     choice: &Choice<'_>,
     file: D,
     device: W,
-) -> Result<Listing, Failure>
-    ensures listed { IfOk result (IsListingOf params.now choice.now (option_map capture_of (D.remaining file))) }
-    ensures err { IfErr result IsOfFiles }
+) -> Result<Listing, CaptureFailure>
+    ensures { IfOk result (IsListingOf params.now choice.now (option_map capture_of (D.remaining file))) }
 {
-    let Ok(buffered) = BufWriter::with_capacity(alloc, BUFFER, Watched::new(device)) else {
-        return Err(Failure::OutOfMemory);
-    };
     let mut source = Keeping::new(Counted::new(Watched::new(file)));
-    let mut sink = Counted::new(buffered);
-    let listing = list(alloc, params, choice, &mut source, &mut sink);
-    let mut buffered = sink.into_inner();
-    let listing = flushed(listing, &mut buffered);
+    let mut output = output_to(alloc, device)?;
+    let listing = list(alloc, params, choice, &mut source, &mut output);
     let header = source.header();
     let reader = source.into_inner().into_inner();
-    let (writer, _) = buffered.into_parts();
-    match listing {
+    match flushed(output, listing) {
         Ok(listing) => Ok(listing),
-        Err(fault) => Err(unlisted(alloc, path, fault, header, &reader, &writer)),
+        Err(stopped) => Err(unlisted(alloc, path, stopped, header, &reader)),
     }
 }
 
@@ -128,17 +105,10 @@ fn show_capture<R: AllocGlobal + Files + Input + Print>(
     rt: &R,
     showing: &Showing<'_>,
     params: &Params,
-) -> Result<Listing, Failure>
-    ensures { IfErr result IsOfFiles }
-{
+) -> Result<Listing, CaptureFailure> {
     let (alloc, path, choice) = (rt.alloc(), showing.capture, choice_of(showing));
-    if path == STANDARD_INPUT {
-        return show_of(alloc, path, params, &choice, rt.reader(), io::writer(rt));
-    }
-    match File::open(rt, path) {
-        Ok(file) => show_of(alloc, path, params, &choice, file, io::writer(rt)),
-        Err(error) => Err(unread(alloc, path, Some(error))),
-    }
+    let capture = open_capture(rt, path)?;
+    show_of(alloc, path, params, &choice, capture, io::writer(rt))
 }
 
 /// Reads the parameters, and lists the packets of the capture on standard output. Answers the program's status.
@@ -146,7 +116,7 @@ pub fn show_file<R: AllocGlobal + Files + Input + Print>(
     rt: &R,
     showing: &Showing<'_>,
 ) -> Result<u8, Failure>
-    ensures ok { IfOk result (λ status. status ≤ 1) }
+    ensures { IfOk result (λ status. status ≤ 1) }
 {
     let text = whole_file(rt, showing.parameters)?;
     let params = params_in(rt.alloc(), showing.parameters, &text)?;

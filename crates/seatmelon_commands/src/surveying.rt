@@ -1,22 +1,21 @@
 //! The command `survey`.
 ghost use Rattle.std.specs.Prelude.{◌≡◌, ◌<◌, ◌≤◌, [], length, None, IfErr, IfOk, IfSome, IsSome};
 ghost use Rattle.seatmelon_survey.specs.Survey.{connections_in, fault_in, format_of_survey, header_of};
-ghost use Rattle.seatmelon_commands.specs.Failing.{status_of, TellsOf, IsOfFiles};
+ghost use Rattle.seatmelon_commands.specs.Failing.{TellsOf};
 ghost use Rattle.seatmelon_commands.specs.Formats.{FormatFits};
 ghost use Rattle.seatmelon_commands.specs.Headers.{IsHeaderOf, TellsHeader, TellsHeaderOf};
 
 use crate::answer::{Answer, write_answer};
-use crate::failure::{Failure, Refusal};
-use crate::file_kind::kind_of_start;
-use crate::output::STANDARD_OUTPUT;
-use crate::reading::{BUFFER, STANDARD_INPUT, unread};
+use crate::opening::open_capture;
 use crate::watched::Watched;
-use rasta_pcap::{Buffered, Counted, Fault, Source};
+use rasta_pcap::{BUFFER, Buffered, Counted, Fault, Source};
 use seatmelon_capture::{FileHeader, Keeping};
+use seatmelon_failures::{
+    CaptureFailure, DeviceFailure, Refusal, RefusedCapture, STANDARD_OUTPUT, kind_of_start, unread,
+};
 use seatmelon_pcapng::{Capture, Format};
 use seatmelon_survey::{Behind, Survey, survey};
 use std::alloc::Global;
-use std::fs::File;
 use std::io;
 use std::io::{Input, Read};
 use std::rt::Files;
@@ -28,27 +27,23 @@ pub fn refused<D>(
     fault: Fault,
     header: Option<FileHeader>,
     file: &Watched<D>,
-) -> Failure
+) -> CaptureFailure
     ensures number { TellsOf fault.number result }
     ensures header { TellsHeader header result }
-    ensures files { IsOfFiles result }
 {
     match fault.number {
-        Fault::NO_MEMORY => Failure::OutOfMemory,
-        Fault::READ_FAILED => unread(alloc, path, file.error()),
+        Fault::NO_MEMORY => CaptureFailure::Device(DeviceFailure::OutOfMemory),
+        Fault::READ_FAILED => CaptureFailure::Device(unread(alloc, path, file.error())),
         _ => {
-            let kind = kind_of_start(file.start());
+            let refusal = Refusal {
+                fault,
+                kind: kind_of_start(file.start()),
+                header,
+                format: Format::Classic,
+            };
             match String::from_str(alloc, path) {
-                Ok(path) => Failure::Refused {
-                    path,
-                    refusal: Refusal {
-                        fault,
-                        kind,
-                        header,
-                        format: Format::Classic,
-                    },
-                },
-                Err(_) => Failure::OutOfMemory,
+                Ok(path) => CaptureFailure::Refused(RefusedCapture { path, refusal }),
+                Err(_) => CaptureFailure::Device(DeviceFailure::OutOfMemory),
             }
         }
     }
@@ -124,9 +119,7 @@ pub fn survey_of<D: Read + Drop>(
     path: &str,
     file: D,
     behind: Option<Behind>,
-) -> Result<Survey, Failure>
-    ensures err { IfErr result (λ failure. IsOfFiles failure) }
-
+) -> Result<Survey, CaptureFailure>
     // A header that is told is the one that the file begins with.
     ensures refused { IfSome (D.remaining file) (λ bytes. IfErr result (TellsHeaderOf bytes)) }
     ensures header { IfSome (D.remaining file) (λ bytes. IfOk result (λ s. IsHeaderOf bytes (header_of s))) }
@@ -146,17 +139,9 @@ pub fn survey_at<R: AllocGlobal + Files + Input>(
     rt: &R,
     path: &str,
     behind: Option<Behind>,
-) -> Result<Survey, Failure>
-    ensures err { IfErr result (λ failure. IsOfFiles failure) }
-{
-    let alloc = rt.alloc();
-    if path == STANDARD_INPUT {
-        return survey_of(alloc, path, rt.reader(), behind);
-    }
-    match File::open(rt, path) {
-        Ok(file) => survey_of(alloc, path, file, behind),
-        Err(error) => Err(unread(alloc, path, Some(error))),
-    }
+) -> Result<Survey, CaptureFailure> {
+    let capture = open_capture(rt, path)?;
+    survey_of(rt.alloc(), path, capture, behind)
 }
 
 /// The program's status after a survey: 1 where it found no connection, or the capture isn't whole.
@@ -173,9 +158,7 @@ pub fn write_survey<R: AllocGlobal + Print>(
     rt: &R,
     survey: &Survey,
     form: SurveyForm,
-) -> Result<(), Failure>
-    ensures { IfErr result (λ failure. status_of failure ≡ 3) }
-{
+) -> Result<(), DeviceFailure> {
     let answer = match form {
         SurveyForm::Text => Answer::Survey(survey),
         SurveyForm::Json => Answer::SurveyJson(survey),
@@ -187,9 +170,8 @@ pub fn write_survey<R: AllocGlobal + Print>(
 pub fn survey_file<R: AllocGlobal + Files + Input + Print>(
     rt: &R,
     surveying: &Surveying<'_>,
-) -> Result<u8, Failure>
-    ensures ok { IfOk result (λ status. status ≤ 1) }
-    ensures err { IfErr result (λ failure. IsOfFiles failure) }
+) -> Result<u8, CaptureFailure>
+    ensures { IfOk result (λ status. status ≤ 1) }
 {
     let survey = survey_at(rt, surveying.capture, None)?;
     write_survey(rt, &survey, surveying.form)?;

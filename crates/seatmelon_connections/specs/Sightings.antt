@@ -6,8 +6,8 @@ use Rattle.seatmelon_connections.specs.declared.numbers.Numbers.{Numbers}
 use Rattle.seatmelon_connections.specs.declared.numbers.Remembered.{Remembered}
 use Rattle.seatmelon_connections.specs.declared.numbers.Sighting.{Sighting}
 use Rattle.seatmelon_connections.specs.declared.numbers.Sighting.TheVariants.{First, Late, Copy, DifferingCopy, TooOld}
-use Rattle.seatmelon_connections.specs.declared.numbers.Standing.{Standing}
-use Rattle.seatmelon_connections.specs.declared.numbers.Standing.TheVariants.{Expected, Ahead, Behind}
+use Rattle.seatmelon_connections.specs.declared.numbers.Offset.{Offset}
+use Rattle.seatmelon_connections.specs.declared.numbers.Offset.TheVariants.{Expected, Ahead, Behind}
 use Rattle.seatmelon_packets.specs.declared.packet.Packet.{Packet}
 
 -- how far a number is ahead of an earlier one, where numbers of 32 bits wrap around
@@ -15,8 +15,8 @@ abbrev pub ahead_of : ℕ → ℕ → ℕ
 ahead_of earlier number = (number + (2 ^ 32 - earlier)) % 2 ^ 32
 
 -- where a number stands beside the expected one: less than half of the numbers ahead of it, or else behind it
-abbrev pub standing_in : ℕ → ℕ → Standing
-standing_in number expected =
+abbrev pub offset_in : ℕ → ℕ → Offset
+offset_in number expected =
     let ahead = ahead_of expected number in
     if ahead == 0 then Expected
     else if nat_lt ahead (2 ^ 31) then Ahead ahead
@@ -42,7 +42,7 @@ compared hash None = Late
 compared hash (Some r) = if hash == r.hash then Copy r.«record» else DifferingCopy r.«record»
 
 -- a packet whose number stands so, beside the remembered one of its number
-abbrev pub sighting_at : Standing → ℕ → Option Remembered → Sighting
+abbrev pub sighting_at : Offset → ℕ → Option Remembered → Sighting
 sighting_at Expected hash r = First
 sighting_at (Ahead missing) hash r = First
 sighting_at (Behind distance) hash r = if nat_lt 256 distance then TooOld else compared hash r
@@ -50,7 +50,7 @@ sighting_at (Behind distance) hash r = if nat_lt 256 distance then TooOld else c
 -- what a packet is: the first of its number, if that is the expected one or ahead of it; too old, if it is behind by
 -- more than 256; and else what it is beside the remembered one of its number
 abbrev pub sighting_in : Numbers → Packet → Sighting
-sighting_in n p = sighting_at (standing_in p.number (expected_number n p)) p.hash (remembered_at n p.number)
+sighting_in n p = sighting_at (offset_in p.number (expected_number n p)) p.hash (remembered_at n p.number)
 
 -- a packet repeats an earlier one byte for byte
 abbrev pub is_copy : Sighting → Bool
@@ -82,18 +82,18 @@ is_differing TooOld = false
 
 -- ---- the course of an end
 
-abbrev pub is_ahead : Standing → Bool
+abbrev pub is_ahead : Offset → Bool
 is_ahead (Ahead n) = true
 is_ahead Expected = false
 is_ahead (Behind n) = false
 
-abbrev pub is_behind : Standing → Bool
+abbrev pub is_behind : Offset → Bool
 is_behind (Behind n) = true
 is_behind Expected = false
 is_behind (Ahead n) = false
 
 -- a number is ahead of the expected one, or behind it, by no more than 256
-abbrev pub is_near : Standing → Bool
+abbrev pub is_near : Offset → Bool
 is_near Expected = true
 is_near (Ahead n) = nat_le n 256
 is_near (Behind n) = nat_le n 256
@@ -110,7 +110,7 @@ has_sent n = is_some n.latest
 -- number as that of the end's latest one
 abbrev pub is_of_course : Numbers → Packet → Latest → Bool
 is_of_course n p latest =
-    is_near (standing_in p.number (expected_number n p))
+    is_near (offset_in p.number (expected_number n p))
     && (not (is_differing (sighting_in n p)) && (lead_of p == latest.lead))
 
 -- an end can have sent a packet, by its latest one: the packet repeats one of the end, or is of its course
@@ -124,7 +124,7 @@ can_have_sent n p = can_have_sent_by n p n.latest
 
 -- a packet confirms an SN whose PDU has a number that is near the expected one
 abbrev pub confirms_near : Packet → Option Latest → Option ℕ → Bool
-confirms_near p (Some latest) (Some expected) = is_near (standing_in (ahead_of latest.lead p.cs) expected)
+confirms_near p (Some latest) (Some expected) = is_near (offset_in (ahead_of latest.lead p.cs) expected)
 confirms_near p (Some latest) None = false
 confirms_near p None expected = false
 
@@ -137,8 +137,8 @@ can_confirm n p = confirms_near p n.latest n.expected
 abbrev pub precedes_latest : Numbers → Packet → Option Latest → Bool
 precedes_latest n p None = false
 precedes_latest n p (Some latest) =
-    is_behind (standing_in p.number (expected_number n p))
-    && (not (is_differing (sighting_in n p)) && ((lead_of p == latest.lead) && not (is_ahead (standing_in p.ts latest.ts))))
+    is_behind (offset_in p.number (expected_number n p))
+    && (not (is_differing (sighting_in n p)) && ((lead_of p == latest.lead) && not (is_ahead (offset_in p.ts latest.ts))))
 
 abbrev pub precedes : Numbers → Packet → Bool
 precedes n p = precedes_latest n p n.latest

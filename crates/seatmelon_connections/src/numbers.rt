@@ -1,8 +1,8 @@
 //! The redundancy layer's numbers of an end.
 ghost use Rattle.std.specs.Prelude.{◌≡◌, ◌%◌, ◌==◌, IfErr, is_some};
 ghost use Rattle.rasta_pcap.specs.Fault.{no_memory};
-ghost use Rattle.seatmelon_connections.specs.Numbers.{IsStanding};
-ghost use Rattle.seatmelon_connections.specs.Sightings.{can_confirm, can_have_sent, compared, expected_number, has_sent, is_ahead, is_behind, is_copy, is_differing, is_near, lead_of, precedes, remembered_at, sighting_in, standing_in};
+ghost use Rattle.seatmelon_connections.specs.Numbers.{IsOffset};
+ghost use Rattle.seatmelon_connections.specs.Sightings.{can_confirm, can_have_sent, compared, expected_number, has_sent, is_ahead, is_behind, is_copy, is_differing, is_near, lead_of, precedes, remembered_at, sighting_in, offset_in};
 
 use rasta_pcap::Fault;
 use seatmelon_packets::Packet;
@@ -51,25 +51,25 @@ impl Sighting {
 
 // Where a number stands beside the one that is expected.
 #[derive(Clone, Copy)]
-enum Standing {
+enum Offset {
     Expected,
     Ahead(u32),
     Behind(u32),
 }
 
-impl Standing {
+impl Offset {
     // Whether the number is ahead.
     fn is_ahead(&self) -> bool
         ensures { result ≡ is_ahead self.now }
     {
-        matches!(self, Standing::Ahead(_))
+        matches!(self, Offset::Ahead(_))
     }
 
     // Whether the number is behind.
     fn is_behind(&self) -> bool
         ensures { result ≡ is_behind self.now }
     {
-        matches!(self, Standing::Behind(_))
+        matches!(self, Offset::Behind(_))
     }
 
     // Whether the number is ahead or behind by no more than are remembered.
@@ -77,23 +77,23 @@ impl Standing {
         ensures { result ≡ is_near self.now }
     {
         match self {
-            Standing::Expected => true,
-            Standing::Ahead(distance) | Standing::Behind(distance) => *distance <= REMEMBERED,
+            Offset::Expected => true,
+            Offset::Ahead(distance) | Offset::Behind(distance) => *distance <= REMEMBERED,
         }
     }
 }
 
-fn standing_of(number: u32, expected: u32) -> Standing
-    ensures standing { IsStanding result number expected }
-    ensures value { result ≡ standing_in number expected }
+fn offset_of(number: u32, expected: u32) -> Offset
+    ensures offset { IsOffset result number expected }
+    ensures value { result ≡ offset_in number expected }
 {
     let ahead = number.wrapping_sub(expected);
     if ahead == 0 {
-        Standing::Expected
+        Offset::Expected
     } else if ahead < HALF {
-        Standing::Ahead(ahead)
+        Offset::Ahead(ahead)
     } else {
-        Standing::Behind(expected.wrapping_sub(number))
+        Offset::Behind(expected.wrapping_sub(number))
     }
 }
 
@@ -221,10 +221,10 @@ impl Numbers {
     pub(crate) fn sighting_of(&self, packet: &Packet) -> Sighting
         ensures { result ≡ sighting_in self.now packet.now }
     {
-        match standing_of(packet.number, self.expected_at(packet)) {
-            Standing::Expected | Standing::Ahead(_) => Sighting::First,
-            Standing::Behind(distance) if distance > REMEMBERED => Sighting::TooOld,
-            Standing::Behind(_) => self.compare(packet),
+        match offset_of(packet.number, self.expected_at(packet)) {
+            Offset::Expected | Offset::Ahead(_) => Sighting::First,
+            Offset::Behind(distance) if distance > REMEMBERED => Sighting::TooOld,
+            Offset::Behind(_) => self.compare(packet),
         }
     }
 
@@ -245,9 +245,9 @@ impl Numbers {
             return true;
         };
         let sighting = self.sighting_of(packet);
-        let standing = standing_of(packet.number, self.expected_at(packet));
+        let offset = offset_of(packet.number, self.expected_at(packet));
         sighting.is_copy()
-            || (standing.is_near() && !sighting.is_differing() && lead_of(packet) == latest.lead)
+            || (offset.is_near() && !sighting.is_differing() && lead_of(packet) == latest.lead)
     }
 
     /// Whether a packet of the other end can confirm one of this end: the PDU of the SN that it confirms is near those
@@ -257,7 +257,7 @@ impl Numbers {
     {
         match (self.latest, self.expected) {
             (Some(latest), Some(expected)) => {
-                standing_of(packet.cs.wrapping_sub(latest.lead), expected).is_near()
+                offset_of(packet.cs.wrapping_sub(latest.lead), expected).is_near()
             }
             _ => false,
         }
@@ -271,10 +271,10 @@ impl Numbers {
         let Some(latest) = self.latest else {
             return false;
         };
-        standing_of(packet.number, self.expected_at(packet)).is_behind()
+        offset_of(packet.number, self.expected_at(packet)).is_behind()
             && !self.sighting_of(packet).is_differing()
             && lead_of(packet) == latest.lead
-            && !standing_of(packet.ts, latest.ts).is_ahead()
+            && !offset_of(packet.ts, latest.ts).is_ahead()
     }
 
     /// Takes the number of a packet in, and says what the packet is.
@@ -300,7 +300,7 @@ impl Numbers {
     // Takes in a packet that is not behind the others.
     fn go_on(&mut self, packet: &Packet) {
         let expected = self.expected_at(packet);
-        if let Standing::Ahead(missing) = standing_of(packet.number, expected) {
+        if let Offset::Ahead(missing) = offset_of(packet.number, expected) {
             self.add_gap(packet, expected, missing);
         }
         self.expected = Some(packet.number.wrapping_add(1));

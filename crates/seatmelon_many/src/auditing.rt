@@ -1,23 +1,21 @@
 //! The command `audit`.
-ghost use Rattle.std.specs.Prelude.{◌≡◌, ◌<◌, ◌≤◌, ◌^◌, IfErr, IfOk, IfSome, length};
+ghost use Rattle.std.specs.Prelude.{◌<◌, ◌≤◌, ◌^◌, IfOk, IfSome, length};
 ghost use Rattle.seatmelon_pcapng.specs.Formats.{capture_of, left_in};
 ghost use Rattle.seatmelon_audit.specs.Audits.{AreAudits};
-ghost use Rattle.seatmelon_commands.specs.Failing.{status_of, IsOfExplaining};
 
 use crate::files::parameter_files;
 use crate::judging::{Judged, judge};
 use rasta_pcap::{Counted, Fault, Source};
 use rasta_pdu::Params;
 use seatmelon_audit::{Audit, audit};
-use seatmelon_commands::{
-    Failure, FileKind, Progress, STANDARD_INPUT, STANDARD_OUTPUT, Watched, advise, finish,
-    kind_of_start, len_at, output_to, unread,
+use seatmelon_commands::{Watched, advise, finish, open_told, output_to};
+use seatmelon_failures::{
+    DeviceFailure, FileKind, InputFailure, STANDARD_OUTPUT, kind_of_start, unread,
 };
 use seatmelon_pcapng::{Capture, Format};
 use seatmelon_reading::{Summed, drain};
 use seatmelon_tally::{Inputs, status_of, write_audit, write_audit_json};
 use std::alloc::Global;
-use std::fs::File;
 use std::io;
 use std::io::{Input, Read, Write};
 use std::rt::Files;
@@ -53,12 +51,10 @@ pub struct Audited {
 }
 
 // Why there is no audit, by the fault and the error of the reader.
-fn unaudited(alloc: Global, path: &str, fault: Fault, error: Option<io::Error>) -> Failure
-    ensures { status_of result ≡ 3 }
-{
+fn unaudited(alloc: Global, path: &str, fault: Fault, error: Option<io::Error>) -> DeviceFailure {
     match fault.number {
         Fault::READ_FAILED => unread(alloc, path, error),
-        _ => Failure::OutOfMemory,
+        _ => DeviceFailure::OutOfMemory,
     }
 }
 
@@ -91,9 +87,7 @@ fn write_to<W: Write + Drop>(
     audit: &Audit,
     telling: Telling,
     device: W,
-) -> Result<(), Failure>
-    ensures { IfErr result (λ failure. status_of failure ≡ 3) }
-{
+) -> Result<(), DeviceFailure> {
     let mut output = output_to(alloc, device)?;
     let written = match telling.page {
         Page::Text => write_audit(&mut output, named.names, audit, telling.format),
@@ -189,10 +183,9 @@ pub fn audit_of<D: Read + Drop, W: Write + Drop>(
     params: &[Params],
     file: D,
     device: W,
-) -> Result<Audited, Failure>
+) -> Result<Audited, DeviceFailure>
     requires { length params.now < 2 ^ 32 }
-    ensures audits { IfSome (D.remaining file) (λ bytes. IfOk result (λ a. AreAudits params.now (capture_of bytes) a.audit)) }
-    ensures err { IfErr result (λ failure. status_of failure ≡ 3) }
+    ensures { IfSome (D.remaining file) (λ bytes. IfOk result (λ a. AreAudits params.now (capture_of bytes) a.audit)) }
 {
     let mut source = Counted::new(Watched::new(file));
     let audited = audit_as(alloc, auditing.form, params, &mut source);
@@ -216,22 +209,11 @@ fn audit_capture<R: AllocGlobal + Clock + Eprint + Files + Input + Print>(
     named: &Named<'_>,
     params: &[Params],
     is_told: bool,
-) -> Result<Audited, Failure>
+) -> Result<Audited, DeviceFailure>
     requires { length params.now < 2 ^ 32 }
-    ensures { IfErr result (λ failure. status_of failure ≡ 3) }
 {
-    let (alloc, path, device) = (rt.alloc(), auditing.capture, io::writer(rt));
-    if path == STANDARD_INPUT {
-        let input = Progress::new(rt, rt.reader(), None, is_told);
-        return audit_of(alloc, auditing, named, params, input, device);
-    }
-    match File::open(rt, path) {
-        Ok(file) => {
-            let file = Progress::new(rt, file, len_at(rt, path), is_told);
-            audit_of(alloc, auditing, named, params, file, device)
-        }
-        Err(error) => Err(unread(alloc, path, Some(error))),
-    }
+    let capture = open_told(rt, auditing.capture, is_told)?;
+    audit_of(rt.alloc(), auditing, named, params, capture, io::writer(rt))
 }
 
 // Tells on standard error what can be done where a capture is refused for its link type.
@@ -255,9 +237,8 @@ pub fn audit_files<R: AllocGlobal + Clock + Clone + Drop + Eprint + Files + Inpu
     rt: &R,
     auditing: &Auditing<'_>,
     is_told: bool,
-) -> Result<u8, Failure>
-    ensures ok { IfOk result (λ status. status ≤ 3) }
-    ensures err { IfErr result IsOfExplaining }
+) -> Result<u8, InputFailure>
+    ensures { IfOk result (λ status. status ≤ 3) }
 {
     let files = parameter_files(rt, auditing.parameters.as_slice())?;
     let recorded = match judge(rt, &files)? {

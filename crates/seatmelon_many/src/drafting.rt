@@ -1,11 +1,10 @@
 //! The command `draft` for all connections at once.
-ghost use Rattle.std.specs.Prelude.{◌≡◌, ◌≤◌, IfErr, IfOk};
-ghost use Rattle.seatmelon_commands.specs.Failing.{status_of, IsOfFiles};
+ghost use Rattle.std.specs.Prelude.{◌≤◌, IfOk};
 
 use seatmelon_commands::{
-    Answer, Draft, Failure, SurveyForm, status_of_survey, survey_at, tell_fault, unwritten,
-    unwritten_at, write_answer, write_survey,
+    Answer, Draft, SurveyForm, status_of_survey, survey_at, tell_fault, write_answer, write_survey,
 };
+use seatmelon_failures::{CaptureFailure, DeviceFailure, unwritten, unwritten_at};
 use seatmelon_survey::{Connection, Survey};
 use std::alloc::{AllocError, Global};
 use std::fs::File;
@@ -38,9 +37,7 @@ fn write_draft<R: AllocGlobal + Files + Print>(
     rt: &R,
     path: &str,
     draft: Draft<'_>,
-) -> Result<(), Failure>
-    ensures { IfErr result (λ failure. status_of failure ≡ 3) }
-{
+) -> Result<(), DeviceFailure> {
     let file = match File::create_new(rt, path) {
         Ok(file) => file,
         Err(error) => return Err(unwritten_at(rt.alloc(), path, Some(error))),
@@ -57,9 +54,7 @@ fn write_drafts<R: AllocGlobal + Files + Print>(
     rt: &R,
     folder: &str,
     survey: &Survey,
-) -> Result<(), Failure>
-    ensures { IfErr result (λ failure. status_of failure ≡ 3) }
-{
+) -> Result<(), DeviceFailure> {
     if let Err(error) = fs::create_dir_all(rt, folder) {
         return Err(unwritten_at(rt.alloc(), folder, Some(error)));
     }
@@ -85,9 +80,8 @@ fn write_drafts<R: AllocGlobal + Files + Print>(
 pub fn draft_all<R: AllocGlobal + Eprint + Files + Input + Print>(
     rt: &R,
     drafting: &DraftingAll<'_>,
-) -> Result<u8, Failure>
-    ensures ok { IfOk result (λ status. status ≤ 1) }
-    ensures err { IfErr result IsOfFiles }
+) -> Result<u8, CaptureFailure>
+    ensures { IfOk result (λ status. status ≤ 1) }
 {
     let survey = survey_at(rt, drafting.capture, None)?;
     if survey.connections().is_empty() {

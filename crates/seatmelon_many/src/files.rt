@@ -1,8 +1,7 @@
 //! Which parameter files are named.
-ghost use Rattle.std.specs.Prelude.{◌≡◌, ◌≤◌, IfErr, length};
-ghost use Rattle.seatmelon_commands.specs.Failing.{IsOfExplaining};
+ghost use Rattle.std.specs.Prelude.{◌≡◌, ◌≤◌, length};
 
-use seatmelon_commands::{Failure, unread};
+use seatmelon_failures::{DeviceFailure, InputFailure, WordsFailure, WordsOrMemory, unread};
 use std::alloc::Global;
 use std::fs::DirEntry;
 use std::rt::Files;
@@ -60,15 +59,13 @@ impl ParameterFiles {
     }
 
     // Adds the file of that path, which was named so.
-    fn add(&mut self, path: String, origin: Origin) -> Result<(), Failure>
-        ensures { IfErr result IsOfExplaining }
-    {
+    fn add(&mut self, path: String, origin: Origin) -> Result<(), WordsOrMemory> {
         if self.names.len() == MOST_FILES {
-            return Err(Failure::TooManyFiles { most: MOST_FILES });
+            return Err(WordsFailure::TooManyFiles { most: MOST_FILES }.into());
         }
         match (self.origins.push(origin), self.names.push(path)) {
             (Ok(()), Ok(())) => Ok(()),
-            _ => Err(Failure::OutOfMemory),
+            _ => Err(WordsOrMemory::OutOfMemory),
         }
     }
 }
@@ -110,21 +107,17 @@ fn paths_in<R: AllocGlobal + Files + Clone + Drop>(
 }
 
 // That a folder has no parameter file.
-fn no_files(alloc: Global, folder: &str) -> Failure
-    ensures { IsOfExplaining result }
-{
+fn no_files(alloc: Global, folder: &str) -> WordsOrMemory {
     match String::from_str(alloc, folder) {
-        Ok(path) => Failure::NoFiles { path },
-        Err(_) => Failure::OutOfMemory,
+        Ok(path) => WordsFailure::NoFiles { path }.into(),
+        Err(error) => error.into(),
     }
 }
 
 // Why a folder's files aren't known.
-fn unlisted(alloc: Global, folder: &str, error: io::Error) -> Failure
-    ensures { IsOfExplaining result }
-{
+fn unlisted(alloc: Global, folder: &str, error: io::Error) -> DeviceFailure {
     match error.kind() {
-        io::ErrorKind::OutOfMemory => Failure::OutOfMemory,
+        io::ErrorKind::OutOfMemory => DeviceFailure::OutOfMemory,
         _ => unread(alloc, folder, Some(error)),
     }
 }
@@ -134,15 +127,13 @@ fn add_folder<R: AllocGlobal + Files + Clone + Drop>(
     rt: &R,
     folder: &str,
     files: &mut ParameterFiles,
-) -> Result<(), Failure>
-    ensures { IfErr result IsOfExplaining }
-{
+) -> Result<(), InputFailure> {
     let paths = match paths_in(rt, folder) {
         Ok(paths) => paths,
-        Err(error) => return Err(unlisted(rt.alloc(), folder, error)),
+        Err(error) => return Err(unlisted(rt.alloc(), folder, error).into()),
     };
     if paths.is_empty() {
-        return Err(no_files(rt.alloc(), folder));
+        return Err(no_files(rt.alloc(), folder).into());
     }
     for path in paths {
         files.add(path, Origin::Folder)?;
@@ -155,9 +146,7 @@ fn add_folder<R: AllocGlobal + Files + Clone + Drop>(
 pub fn parameter_files<R: AllocGlobal + Files + Clone + Drop>(
     rt: &R,
     paths: &[&str],
-) -> Result<ParameterFiles, Failure>
-    ensures { IfErr result IsOfExplaining }
-{
+) -> Result<ParameterFiles, InputFailure> {
     let mut files = ParameterFiles::new(rt.alloc());
     for path in paths {
         if is_folder(rt, path) {

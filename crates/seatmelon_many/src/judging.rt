@@ -1,15 +1,15 @@
 //! Parameter files, all of them read and judged before the capture is.
-ghost use Rattle.std.specs.Prelude.{◌≡◌, ◌≤◌, ◌+◌, ℕ, length, IfErr, IfOk, OnOk};
+ghost use Rattle.std.specs.Prelude.{◌≡◌, ◌≤◌, ◌+◌, ℕ, length, IfOk, OnOk};
 ghost use Rattle.sha2.specs.Sha256.{sha256};
-ghost use Rattle.seatmelon_commands.specs.Failing.{IsOfExplaining, status_of};
 ghost use Rattle.seatmelon_many.specs.Files.{count_in};
 ghost use Rattle.seatmelon_many.specs.Judged.{AreOf};
 
 use crate::files::{Origin, ParameterFiles};
 use rasta_pdu::Params;
-use seatmelon_commands::{Failure, of_folder, params_in, status, whole_file};
+use seatmelon_commands::whole_file;
+use seatmelon_failures::{DeviceFailure, InputFailure, params_in};
 use sha2::{Digest, Sha256};
-use std::alloc::Global;
+use std::alloc::{AllocError, Global};
 use std::rt::Files;
 
 /// The parameters of files, and the SHA-256 of each file, in the order of the files.
@@ -47,13 +47,12 @@ impl Recorded {
     }
 
     // Adds those of one more file.
-    fn add(&mut self, file: ParameterFile) -> Result<(), Failure>
-        ensures ok { OnOk result (length self.new.params.items ≡ length self.old.params.items + 1) }
-        ensures err { IfErr result IsOfExplaining }
+    fn add(&mut self, file: ParameterFile) -> Result<(), AllocError>
+        ensures { OnOk result (length self.new.params.items ≡ length self.old.params.items + 1) }
     {
         match (self.sums.push(file.sum), self.params.push(file.params)) {
             (Ok(()), Ok(())) => Ok(()),
-            _ => Err(Failure::OutOfMemory),
+            _ => Err(AllocError),
         }
     }
 }
@@ -68,9 +67,7 @@ fn sum_of(text: &[u8]) -> [u8; 32]
 }
 
 // What the file of that path holds.
-fn file_at<R: AllocGlobal + Files>(rt: &R, path: &str) -> Result<ParameterFile, Failure>
-    ensures { IfErr result IsOfExplaining }
-{
+fn file_at<R: AllocGlobal + Files>(rt: &R, path: &str) -> Result<ParameterFile, InputFailure> {
     let text = whole_file(rt, path)?;
     let params = params_in(rt.alloc(), path, &text)?;
     let sum = sum_of(&text);
@@ -78,13 +75,10 @@ fn file_at<R: AllocGlobal + Files>(rt: &R, path: &str) -> Result<ParameterFile, 
 }
 
 // Why a file that was named so has no parameters.
-fn told_of(failure: Failure, origin: Origin) -> Failure
-    requires { IsOfExplaining failure }
-    ensures { IsOfExplaining result }
-{
+fn told_of(failure: InputFailure, origin: Origin) -> InputFailure {
     match origin {
         Origin::Named => failure,
-        Origin::Folder => of_folder(failure),
+        Origin::Folder => failure.of_folder(),
     }
 }
 
@@ -93,9 +87,7 @@ fn file_of<R: AllocGlobal + Files>(
     rt: &R,
     path: &str,
     origin: Origin,
-) -> Result<ParameterFile, Failure>
-    ensures { IfErr result IsOfExplaining }
-{
+) -> Result<ParameterFile, InputFailure> {
     match file_at(rt, path) {
         Ok(file) => Ok(file),
         Err(failure) => Err(told_of(failure, origin)),
@@ -103,8 +95,7 @@ fn file_of<R: AllocGlobal + Files>(
 }
 
 // The status where one more file is refused by this failure, which is told; 3 stands over 2.
-fn refused<R: Eprint>(rt: &R, judged: &Judged, failure: &Failure) -> u8
-    requires { IsOfExplaining failure.now }
+fn refused<R: Eprint>(rt: &R, judged: &Judged, failure: &InputFailure) -> u8
     ensures least { 2 ≤ result }
     ensures most { result ≤ 3 }
 {
@@ -112,7 +103,7 @@ fn refused<R: Eprint>(rt: &R, judged: &Judged, failure: &Failure) -> u8
     let _ = eprintln!(rt; "seatmelon: {failure}");
     match judged {
         Judged::Refused(3) => 3,
-        Judged::All(_) | Judged::Refused(_) => status(failure),
+        Judged::All(_) | Judged::Refused(_) => failure.status(),
     }
 }
 
@@ -120,19 +111,17 @@ fn refused<R: Eprint>(rt: &R, judged: &Judged, failure: &Failure) -> u8
 fn with_one<R: Eprint>(
     rt: &R,
     judged: Judged,
-    read: Result<ParameterFile, Failure>,
-) -> Result<Judged, Failure>
-    requires { IfErr read IsOfExplaining }
-    ensures all { (n : ℕ) → AreOf n judged → IfOk result (AreOf (n + 1)) }
-    ensures err { IfErr result IsOfExplaining }
+    read: Result<ParameterFile, InputFailure>,
+) -> Result<Judged, AllocError>
+    ensures { (n : ℕ) → AreOf n judged → IfOk result (AreOf (n + 1)) }
 {
     match (read, judged) {
         (Ok(file), Judged::All(mut all)) => match all.add(file) {
             Ok(()) => Ok(Judged::All(all)),
-            Err(failure) => Err(failure),
+            Err(error) => Err(error),
         },
         (Ok(_), refused) => Ok(refused),
-        (Err(Failure::OutOfMemory), _) => Err(Failure::OutOfMemory),
+        (Err(InputFailure::Device(DeviceFailure::OutOfMemory)), _) => Err(AllocError),
         (Err(failure), judged) => Ok(Judged::Refused(refused(rt, &judged, &failure))),
     }
 }
@@ -141,9 +130,8 @@ fn with_one<R: Eprint>(
 pub fn judge<R: AllocGlobal + Files + Eprint>(
     rt: &R,
     files: &ParameterFiles,
-) -> Result<Judged, Failure>
-    ensures all { IfOk result (AreOf (count_in files.now)) }
-    ensures err { IfErr result IsOfExplaining }
+) -> Result<Judged, AllocError>
+    ensures { IfOk result (AreOf (count_in files.now)) }
 {
     let mut judged = Judged::All(Recorded::new(rt.alloc()));
     for (place, path) in files.names().iter().enumerate() {

@@ -23,7 +23,7 @@ use crate::refusal::{Reason, Refusal};
 use crate::remarks::Remarks;
 use crate::section::Section;
 use byteorder::{ByteOrder, LittleEndian};
-use rasta_pcap::{Fault, Source};
+use rasta_pcap::{BUFFER, Fault, Source};
 use seatmelon_cooked::Kind;
 use std::alloc::{AllocError, Global};
 use std::io;
@@ -39,9 +39,6 @@ const HEADER: [u8; 24] = [
 const RECORD_FRONT: usize = 16;
 
 const ETHERNET_FRONT: usize = 30;
-
-// How many bytes are read at once, where no block is longer.
-const BUFFER: usize = 65_536;
 
 // How many bytes of records are enough to be given: so few that they are still at hand when they are read.
 const ENOUGH: usize = 2048;

@@ -9,6 +9,7 @@ pub mod Noted
 pub mod Opened
 pub mod Passing
 pub mod Readings
+pub mod Seen
 pub mod Silences
 pub mod Sorts
 pub mod Stored

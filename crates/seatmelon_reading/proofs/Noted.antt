@@ -1,21 +1,17 @@
 -- What is noted of one more record.
-use Rattle.std.proofs.Common.{◌≡◌, ◌∙◌, ℕ, zero, suc, ◌+◌, ◌<◌, ◌≤◌, List, [], ◌∷◌, ◌++◌, length, map, filter, cond, Bool, true, false, not, ◌&&◌, nat_eq, nat_le, Option, None, Some, Result, Ok, Err, ap, refl, sym, add-one, add-zero, append-nil, get_or, set, ◌≢◌, ◌⊎◌, ⊎_elim, subst, arith, min}
+use Rattle.std.proofs.Common.{◌≡◌, ◌∙◌, ℕ, zero, suc, ◌+◌, ◌<◌, ◌≤◌, List, [], ◌∷◌, ◌++◌, length, map, filter, cond, Bool, true, false, not, ◌&&◌, nat_eq, nat_le, Option, None, Some, ap, refl, sym, add-one, add-zero, append-nil, get_or, set, ◌≢◌, ◌⊎◌, ⊎_elim, subst, arith, min}
 use Rattle.std.proofs.lemmas.Bool.Decides.{nat_tests}
 use Rattle.std.proofs.lemmas.List.{length-append, length_push, map_push}
 use Rattle.std.proofs.lemmas.List.Elements.{filter-append, filter_map-append}
 use Rattle.std.specs.List.{cons_option, last_or}
 use Rattle.std.specs.Option.{option_map}
-use Rattle.rasta_pcap.specs.declared.fault.Fault.{Fault}
 use Rattle.rasta_pcap.specs.declared.fault.Side.{Side}
 use Rattle.rasta_pcap.specs.declared.time.CaptureTime.{CaptureTime}
 use Rattle.rasta_pcap.specs.declared.fault.Side.TheVariants.{Client, Server}
 use Rattle.rasta_pcap.specs.Captured.{Captured}
-use Rattle.rasta_udp.specs.Frame.{Packet, packet_in}
+use Rattle.rasta_udp.specs.Frame.{Packet}
 use Rattle.rasta_pdu.specs.Params.{Parameters}
-use Rattle.rasta_check.specs.declared.passage.Passage.{Passage}
-use Rattle.rasta_check.specs.Capture.Passages.{passage_of}
-use Rattle.rasta_check.specs.Capture.Reading.{packet_found}
-use Rattle.seatmelon_reading.specs.Noted.{AreNotes, Seen, all_seen, count_on, count_with, counts_of, is_before, is_client, is_clients, is_servers, is_behind, is_inside, is_left_out, last_inside, last_record_of, passage_seen, passed_over, seen_by, seen_in, numbered_seen, seen_inside, sighting_of, stands_inside}
+use Rattle.seatmelon_reading.specs.Noted.{AreNotes, Seen, all_seen, count_on, count_with, counts_of, is_before, is_client, is_clients, is_servers, is_behind, is_inside, last_inside, last_record_of, passed_over, seen_in, numbered_seen, seen_inside, sighting_of, stands_inside}
 use Rattle.seatmelon_reading.specs.Tapes.{NumberedPacket, taped_in}
 use Rattle.seatmelon_reading.specs.Times.{AreTimes, time_of}
 use Rattle.seatmelon_reading.specs.declared.notes.ChannelCount.{ChannelCount}
@@ -194,36 +190,6 @@ module _ (p : Parameters) (without : List ℕ) (records : List Captured) (s : Se
         taped = λ kept. more_taped old new g tape kept ∙ sym (map_push numbered_seen (seen_inside p without records) s) ∙ ap (map numbered_seen) inside;
       }
 
--- ---- where it crossed
-
-pub none_seen : (o : Option Seen) → passage_seen o ≡ None → o ≡ None
-none_seen None e = refl
-none_seen (Some s) e = absurd cc
-
--- the packet that was seen in this record
-pub record IsSeenIn (p : Parameters) (without : List ℕ) (r : Captured) (passage : Passage) : Type 0 where
-  pub packet : Packet
-  pub is : seen_in p without r ≡ Some (record { captured = r; packet = packet })
-  pub crossed : passage ≡ passage_of packet
-
-abbrev crossing_at : Passage → Option Passage
-crossing_at passage = Some passage
-
-seen_by_record : (p : Parameters) (without : List ℕ) (r : Captured) (passage : Passage) (left_out : Bool) (found : Result (Option Packet) Fault)
-    → is_left_out without r.number ≡ left_out → packet_in p.channels r.bytes ≡ found → passage_seen (cond left_out None (seen_by r found)) ≡ crossing_at passage
-    → IsSeenIn p without r passage
-seen_by_record p without r passage true found stays is e = absurd cc
-seen_by_record p without r passage false (Err fault) stays is e = absurd cc
-seen_by_record p without r passage false (Ok None) stays is e = absurd cc
-seen_by_record p without r passage false (Ok (Some packet)) stays is e = record {
-  packet = packet;
-  is = ap (λ b. cond b None (seen_by r (packet_in p.channels r.bytes))) stays ∙ ap (seen_by r) is;
-  crossed = cc;
-}
-
-pub some_seen : (p : Parameters) (without : List ℕ) (r : Captured) (passage : Passage) → passage_seen (seen_in p without r) ≡ Some passage → IsSeenIn p without r passage
-some_seen p without r passage e = seen_by_record p without r passage (is_left_out without r.number) (packet_in p.channels r.bytes) refl refl e
-
 -- ---- counts of the channels
 
 abbrev of_both : ℕ → ℕ → ChannelCount
@@ -353,12 +319,12 @@ inside_bound p without records number next few = (let most = filtered_bound p wi
 abbrev sighting : ℕ → Option CaptureTime → ℕ → Side → Sighting
 sighting number time channel sender = record { «record» = number; time = time; channel = channel; sender = sender }
 
-pub same_sighting : (z : Bool) (before : List Sighting) (s : Seen) (number : ℕ) (time : Option CaptureTime) (passage : Passage) → s.captured.number ≡ number
-    → time ≡ time_of z s.captured → passage ≡ passage_of s.packet → before ++ sighting number time passage.channel passage.side ∷ [] ≡ before ++ sighting_of z s ∷ []
-same_sighting z before s number time passage numbered timed crossed =
-    ap (λ (g : Sighting). before ++ g ∷ []) (ap (λ n. sighting n time passage.channel passage.side) (sym numbered)
-    ∙ ap (λ t. sighting s.captured.number t passage.channel passage.side) timed
-    ∙ ap (λ (x : Passage). sighting s.captured.number (time_of z s.captured) x.channel x.side) crossed)
+pub same_sighting : (z : Bool) (before : List Sighting) (s : Seen) (number : ℕ) (time : Option CaptureTime) (packet : Packet) → s.captured.number ≡ number
+    → time ≡ time_of z s.captured → s.packet ≡ packet → before ++ sighting number time packet.channel packet.side ∷ [] ≡ before ++ sighting_of z s ∷ []
+same_sighting z before s number time packet numbered timed crossed =
+    ap (λ (g : Sighting). before ++ g ∷ []) (ap (λ n. sighting n time packet.channel packet.side) (sym numbered)
+    ∙ ap (λ t. sighting s.captured.number t packet.channel packet.side) timed
+    ∙ ap (λ (x : Packet). sighting s.captured.number (time_of z s.captured) x.channel x.side) (sym crossed))
 
 count_at : (seen : List Seen) (place : ℕ) (count d : ChannelCount) → place < 4 → count ≡ get_or (counts_of seen) place d → count ≡ count_on seen (suc place)
 count_at seen zero count d within e = e
@@ -368,28 +334,14 @@ count_at seen (suc (suc (suc zero))) count d within e = e
 count_at seen (suc (suc (suc (suc place)))) count d within e = absurd (omega arith)
 
 -- the count at a place is exchanged for one with a packet more
-pub counted : (seen : List Seen) (s : Seen) (channels : List ChannelCount) (place : ℕ) (count d new : ChannelCount) (passage : Passage) → channels ≡ counts_of seen
-    → length seen < 4294967296 → passage ≡ passage_of s.packet → place < 4 → passage.channel ≡ suc place → count ≡ get_or channels place d
-    → (count.client < 4294967296 → count.server < 4294967296 → new ≡ count_with count passage.side) → set channels place new ≡ counts_of (seen ++ s ∷ [])
-counted seen s channels place count d new passage is few crossed within channel at more =
+pub counted : (seen : List Seen) (s : Seen) (channels : List ChannelCount) (place : ℕ) (count d new : ChannelCount) (channel : ℕ) (side : Side) → channels ≡ counts_of seen
+    → length seen < 4294967296 → channel ≡ s.packet.channel → side ≡ s.packet.side → place < 4 → channel ≡ suc place → count ≡ get_or channels place d
+    → (count.client < 4294967296 → count.server < 4294967296 → new ≡ count_with count side) → set channels place new ≡ counts_of (seen ++ s ∷ [])
+counted seen s channels place count d new channel side is few crossed sent within numbered at more =
     let here = subst (λ l. count ≡ get_or l place d) is at in
     let bounds = count_bounds seen (suc place) in
     let same = count_at seen place count d within here in
     let clients : count.client ≤ length seen = subst (λ (n : ChannelCount). n.client ≤ length seen) (sym same) bounds.0 in
     let servers : count.server ≤ length seen = subst (λ (n : ChannelCount). n.server ≤ length seen) (sym same) bounds.1 in
-    ap (λ l. set l place new) is ∙ ap (set (counts_of seen) place) (more (omega arith) (omega arith) ∙ ap (λ (x : Passage). count_with count x.side) crossed)
-    ∙ counts_within seen s place count d within (ap (λ (x : Passage). x.channel) (sym crossed) ∙ channel) here
-
--- the packet that was seen is that of its record
-abbrev some_seen_of : Seen → Option Seen
-some_seen_of s = Some s
-
-found_by : (r : Captured) (s : Seen) (left_out : Bool) (found : Result (Option Packet) Fault) → cond left_out None (seen_by r found) ≡ some_seen_of s
-    → packet_found found ≡ Some s.packet
-found_by r s true found e = absurd cc
-found_by r s false (Err fault) e = absurd cc
-found_by r s false (Ok None) e = absurd cc
-found_by r s false (Ok (Some packet)) e = (let same : packet ≡ s.packet = cc in ap (λ (x : Packet). Some x) same)
-
-pub packet-seen : (p : Parameters) (without : List ℕ) (s : Seen) → seen_in p without s.captured ≡ Some s → packet_found (packet_in p.channels s.captured.bytes) ≡ Some s.packet
-packet-seen p without s e = found_by s.captured s (is_left_out without s.captured.number) (packet_in p.channels s.captured.bytes) e
+    ap (λ l. set l place new) is ∙ ap (set (counts_of seen) place) (more (omega arith) (omega arith) ∙ ap (count_with count) sent)
+    ∙ counts_within seen s place count d within (sym crossed ∙ numbered) here

@@ -3,11 +3,10 @@ use Rattle.std.proofs.Common.{◌≡◌, ◌∙◌, ℕ, ◌+◌, ◌<◌, List,
 use Rattle.rasta_pcap.specs.declared.fault.Fault.{Fault}
 use Rattle.rasta_pcap.specs.Captured.{Captured}
 use Rattle.rasta_udp.specs.declared.channel.Channel.{Channel}
-use Rattle.rasta_udp.specs.declared.channel.Datagram.{Datagram}
-use Rattle.rasta_udp.specs.Frame.{Packet, map_found, packet_in, packet_of}
+use Rattle.rasta_udp.specs.Frame.{Packet, packet_in}
 use Rattle.rasta_pdu.specs.Params.{Parameters}
 use Rattle.seatmelon_reading.specs.Noted.{Seen, count_for, is_left_out, passed_over, seen_by, seen_in, why_passed}
-use Rattle.seatmelon_reading.specs.PassedOver.{AreFew, is_for, passed_with, why_by, why_not}
+use Rattle.seatmelon_reading.specs.PassedOver.{AreFew, is_for, passed_with, why_by}
 use Rattle.seatmelon_reading.specs.declared.passed_over.PassedOver.{PassedOver}
 use Rattle.seatmelon_reading.specs.declared.passed_over.WhyPassed.{WhyPassed}
 use Rattle.seatmelon_reading.specs.declared.passed_over.WhyPassed.TheVariants.{LeftOut, NotUdp, Tagged, Elsewhere, Unreadable}
@@ -30,21 +29,15 @@ module _ (p : Parameters) (without : List ℕ) (r : Captured) where
   pub left_out_why : is_left_out without r.number ≡ true → why_passed p without r ≡ Some LeftOut
   left_out_why e = ap (λ b. cond b (Some LeftOut) (why_by p.channels r.bytes (packet_in p.channels r.bytes))) e
 
-  why_of : (found : Result (Option Packet) Fault) → is_left_out without r.number ≡ false → found ≡ packet_in p.channels r.bytes
+  pub why_of : (found : Result (Option Packet) Fault) → is_left_out without r.number ≡ false → packet_in p.channels r.bytes ≡ found
       → why_passed p without r ≡ why_by p.channels r.bytes found
-  why_of found stays is = ap (λ b. cond b (Some LeftOut) (why_by p.channels r.bytes (packet_in p.channels r.bytes))) stays ∙ ap (why_by p.channels r.bytes) (sym is)
+  why_of found stays is = ap (λ b. cond b (Some LeftOut) (why_by p.channels r.bytes (packet_in p.channels r.bytes))) stays ∙ ap (why_by p.channels r.bytes) is
 
-  seen_of : (found : Result (Option Packet) Fault) → is_left_out without r.number ≡ false → found ≡ packet_in p.channels r.bytes → seen_in p without r ≡ seen_by r found
-  seen_of found stays is = ap (λ b. cond b None (seen_by r (packet_in p.channels r.bytes))) stays ∙ ap (seen_by r) (sym is)
+  pub seen_of : (found : Result (Option Packet) Fault) → is_left_out without r.number ≡ false → packet_in p.channels r.bytes ≡ found → seen_in p without r ≡ seen_by r found
+  seen_of found stays is = ap (λ b. cond b None (seen_by r (packet_in p.channels r.bytes))) stays ∙ ap (seen_by r) is
 
-  pub read_why : (found : Option Datagram) → is_left_out without r.number ≡ false → map_found packet_of (Ok found) ≡ packet_in p.channels r.bytes
-      → seen_in p without r ≡ None → why_passed p without r ≡ Some (why_not p.channels r.bytes)
-  read_why None stays is none = why_of (Ok None) stays is
-  read_why (Some d) stays is none = (let some = sym (seen_of (Ok (Some (packet_of d))) stays is) ∙ none in absurd cc)
-
-  pub unreadable_why : (fault : Fault) → is_left_out without r.number ≡ false → map_found packet_of (Err fault) ≡ packet_in p.channels r.bytes
-      → why_passed p without r ≡ Some Unreadable
-  unreadable_why fault stays is = why_of (Err fault) stays is
+  pub left_out_none : is_left_out without r.number ≡ true → seen_in p without r ≡ None
+  left_out_none e = ap (λ b. cond b None (seen_by r (packet_in p.channels r.bytes))) e
 
 -- ---- how many there are
 

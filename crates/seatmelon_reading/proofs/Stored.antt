@@ -42,16 +42,16 @@ more_pushed : (s : Standing) (rs : List Numbered) (r : Numbered) → ((k : Cross
 more_pushed (Ok k) rs r same = same k
 more_pushed (Err f) rs r same = refl
 
-pushed : (k : Crossing) (rs : List Numbered) (r : Numbered) → after_records k (rs ++ r ∷ []) None ≡ then_crossing (after_records k rs None) (λ n. after_record n r)
+pub pushed : (k : Crossing) (rs : List Numbered) (r : Numbered) → after_records k (rs ++ r ∷ []) None ≡ then_crossing (after_records k rs None) (λ n. after_record n r)
 unfolding after_records
 pushed k [] r = then_ok (after_record k r)
 pushed k (x ∷ rs) r = more_pushed (after_record k x) rs r (λ n. pushed n rs r)
 
 module _ (p : Parameters) (without : List ℕ) (done : List Captured) (q : Captured) where
-  abbrev is_judged : Bool
+  abbrev pub is_judged : Bool
   is_judged = not (is_left_out without q.number) && nat_le q.number p.last_record
 
-  judged_push : judged_of p without (done ++ q ∷ []) ≡ judged_of p without done ++ cond is_judged (numbered q ∷ []) []
+  pub judged_push : judged_of p without (done ++ q ∷ []) ≡ judged_of p without done ++ cond is_judged (numbered q ∷ []) []
   judged_push = ap (filter (λ (r : Numbered). stays without r && nat_le r.0 p.last_record)) (map-append numbered done (q ∷ []))
       ∙ filter-append (λ (r : Numbered). stays without r && nat_le r.0 p.last_record) (map numbered done) (numbered q ∷ [])
 

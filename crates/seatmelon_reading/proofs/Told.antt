@@ -27,8 +27,8 @@ use Rattle.seatmelon_reading.specs.Times.{is_time, time_of, time_told}
 use Rattle.seatmelon_reading.specs.Window.{StandsSo}
 use Rattle.seatmelon_reading.specs.declared.code_count.CodeCount.{CodeCount}
 use Rattle.seatmelon_reading.specs.declared.pass.Pass.{Pass}
-use Rattle.seatmelon_reading.specs.declared.window.Standing.{Standing}
-use Rattle.seatmelon_reading.specs.declared.window.Standing.TheVariants.{Before, Behind, Inside}
+use Rattle.seatmelon_reading.specs.declared.window.WindowPlace.{WindowPlace}
+use Rattle.seatmelon_reading.specs.declared.window.WindowPlace.TheVariants.{Before, Behind, Inside}
 use Rattle.seatmelon_reading.specs.declared.capture_refusal.Beside.{Beside}
 use Rattle.seatmelon_reading.specs.declared.capture_refusal.CaptureRefusal.{CaptureRefusal}
 use Rattle.seatmelon_reading.specs.declared.capture_refusal.Wanted.{Wanted}
@@ -38,6 +38,7 @@ use Rattle.seatmelon_reading.proofs.Codes.{captured_of, codes_from-lower, codes_
 use Rattle.seatmelon_reading.proofs.Crossed.{crossed_seen, seen_at}
 use Rattle.seatmelon_reading.proofs.Moments.{told_time}
 use Rattle.seatmelon_reading.proofs.Noted.{filtered_bound}
+use Rattle.seatmelon_reading.proofs.Sorts.{left_out_none, seen_of}
 
 -- ---- the place of a fault
 
@@ -74,14 +75,6 @@ record_place k r f e = window_place k r (nat_lt r.0 k.params.first_record) f e
 abbrev sighting_so : ℕ → Option CaptureTime → ℕ → Side → Sighting
 sighting_so number time channel sender = record { «record» = number; time = time; channel = channel; sender = sender }
 
-abbrev seen_of : Captured → Packet → Option Seen
-seen_of q packet = Some (record { captured = q; packet = packet })
-
-seen_found : (q : Captured) (a : Packet) (o : Result (Option Packet) Fault) → packet_found o ≡ Some a → seen_by q o ≡ Some (record { captured = q; packet = a })
-seen_found q a (Ok None) e = absurd cc
-seen_found q a (Ok (Some x)) e = (let same : x ≡ a = cc in ap (λ (y : Packet). seen_of q y) same)
-seen_found q a (Err f) e = absurd cc
-
 module _ (p : Parameters) (without : List ℕ) (place : ℕ) where
   abbrev Lower : Captured → Type 0
   Lower r = r.number < place
@@ -111,14 +104,12 @@ pub record IsPacketOf (zero : Bool) (p : Parameters) (without : List ℕ) (q : C
   pub sighted : sighting ≡ sighting_of zero (record { captured = q; packet = packet })
 
 pub packet_of_record : (zero : Bool) (p : Parameters) (without : List ℕ) (q : Captured) (a : Packet) (number : ℕ) (bytes : List ℕ) (time : Option CaptureTime)
-    → packet_found (packet_in p.channels bytes) ≡ Some a → numbered q ≡ (number, bytes) → time ≡ time_of zero q → is_left_out without number ≡ false → p.first_record ≤ number
+    → packet_in p.channels bytes ≡ Ok (Some a) → numbered q ≡ (number, bytes) → time ≡ time_of zero q → is_left_out without number ≡ false → p.first_record ≤ number
     → number ≤ p.last_record → IsPacketOf zero p without q (sighting_so number time a.channel a.side) a
 packet_of_record zero p without q a number bytes time found is timed stays first last =
     let number_is : q.number ≡ number = ap (λ (n : Numbered). n.0) is in
-    let bytes_are : q.bytes ≡ bytes = ap (λ (n : Numbered). n.1) is in
-    let here = seen_found q a (packet_in p.channels q.bytes) (ap (λ b. packet_found (packet_in p.channels b)) bytes_are ∙ found) in
-    let kept : is_left_out without q.number ≡ false = ap (is_left_out without) number_is ∙ stays in record {
-      seen = ap (λ (b : Bool). cond b None (seen_by q (packet_in p.channels q.bytes))) kept ∙ here;
+    let bytes_are : q.bytes ≡ bytes = ap (λ (n : Numbered). n.1) is in record {
+      seen = seen_of p without q (Ok (Some a)) (ap (is_left_out without) number_is ∙ stays) (ap (packet_in p.channels) bytes_are ∙ found);
       inside = inside_at p (record { captured = q; packet = a }) (omega (arith, number_is, first)) (omega (arith, number_is, last));
       sighted = ap (λ n. sighting_so n time a.channel a.side) (sym number_is) ∙ ap (λ t. sighting_so q.number t a.channel a.side) timed;
     }
@@ -126,28 +117,22 @@ packet_of_record zero p without q a number bytes time found is timed stays first
 -- ---- a record that adds none
 
 module _ (p : Parameters) (without : List ℕ) (records : List Captured) (q : Captured) where
-  seen_nothing : (o : Result (Option Packet) Fault) → packet_found o ≡ None → seen_by q o ≡ None
-  seen_nothing (Ok None) e = refl
-  seen_nothing (Ok (Some x)) e = absurd cc
-  seen_nothing (Err f) e = refl
-
   -- one that is left out
   pub left_out_same : (number : ℕ) (bytes : List ℕ) → numbered q ≡ (number, bytes) → is_left_out without number ≡ true
       → seen_inside p without (records ++ q ∷ []) ≡ seen_inside p without records
   left_out_same number bytes is left_out =
       inside_none p without records q
-      (ap (λ (b : Bool). cond b None (seen_by q (packet_in p.channels q.bytes))) (ap (λ (n : Numbered). is_left_out without n.0) is ∙ left_out))
+      (left_out_none p without q (ap (λ (n : Numbered). is_left_out without n.0) is ∙ left_out))
 
-  -- one without a packet
-  pub none_same : (number : ℕ) (bytes : List ℕ) → packet_found (packet_in p.channels bytes) ≡ None → numbered q ≡ (number, bytes) → is_left_out without number ≡ false
-      → seen_inside p without (records ++ q ∷ []) ≡ seen_inside p without records
-  none_same number bytes none is stays =
+  -- one of which this was read, without a packet
+  pub none_same : (number : ℕ) (bytes : List ℕ) (found : Result (Option Packet) Fault) → packet_in p.channels bytes ≡ found → seen_by q found ≡ None → numbered q ≡ (number, bytes)
+      → is_left_out without number ≡ false → seen_inside p without (records ++ q ∷ []) ≡ seen_inside p without records
+  none_same number bytes found read none is stays =
       inside_none p without records q
-      (ap (λ (b : Bool). cond b None (seen_by q (packet_in p.channels q.bytes))) (ap (λ (n : Numbered). is_left_out without n.0) is ∙ stays)
-      ∙ seen_nothing (packet_in p.channels q.bytes) (ap (λ (n : Numbered). packet_found (packet_in p.channels n.1)) is ∙ none))
+      (seen_of p without q found (ap (λ (n : Numbered). is_left_out without n.0) is ∙ stays) (ap (λ (n : Numbered). packet_in p.channels n.1) is ∙ read) ∙ none)
 
   -- one outside of the window
-  pub outside_same : (number : ℕ) (bytes : List ℕ) (place : Standing) → (place ≡ Before) ⊎ (place ≡ Behind) → StandsSo p number place → numbered q ≡ (number, bytes)
+  pub outside_same : (number : ℕ) (bytes : List ℕ) (place : WindowPlace) → (place ≡ Before) ⊎ (place ≡ Behind) → StandsSo p number place → numbered q ≡ (number, bytes)
       → seen_inside p without (records ++ q ∷ []) ≡ seen_inside p without records
   outside_same number bytes Before outside stands is =
       inside_outside p without records q
@@ -344,7 +329,7 @@ module _ (zero : Bool) (p : Parameters) (without : List ℕ) (records : List Cap
       subst (IsTrueOf zero p without (records ++ q ∷ [])) this (looked_true s a old new (h old is) same beside (asked old is) here below (codes (h old is)))
 
   -- the codes that it counts
-  pub looked_codes : (a : Packet) (number : ℕ) (bytes : List ℕ) (old new : CaptureRefusal) → packet_found (packet_in p.channels bytes) ≡ Some a → numbered q ≡ (number, bytes)
+  pub looked_codes : (a : Packet) (number : ℕ) (bytes : List ℕ) (old new : CaptureRefusal) → packet_in p.channels bytes ≡ Ok (Some a) → numbered q ≡ (number, bytes)
       → is_left_out without number ≡ false → p.first_record ≤ number → number ≤ p.last_record → number ≡ suc (length records) → number < 4294967296
       → (old.codes.judged < 4294967296 → old.codes.fitting < 4294967296 → new.codes ≡ codes_next p old.fault.place number a old.codes) → IsTrueOf zero p without records old
       → new.codes ≡ codes_from p old.fault.place (seen_inside p without (records ++ q ∷ []))
@@ -352,9 +337,7 @@ module _ (zero : Bool) (p : Parameters) (without : List ℕ) (records : List Cap
       let number_is : q.number ≡ number = ap (λ (n : Numbered). n.0) is in
       let bytes_are : q.bytes ≡ bytes = ap (λ (n : Numbered). n.1) is in
       let s : Seen = record { captured = q; packet = a } in
-      let here : seen_by q (packet_in p.channels q.bytes) ≡ Some s = seen_found q a (packet_in p.channels q.bytes) (ap (λ b. packet_found (packet_in p.channels b)) bytes_are ∙ found) in
-      let kept : is_left_out without q.number ≡ false = ap (is_left_out without) number_is ∙ stays in
-      let some : seen_in p without q ≡ Some s = ap (λ (b : Bool). cond b None (seen_by q (packet_in p.channels q.bytes))) kept ∙ here in
+      let some : seen_in p without q ≡ Some s = seen_of p without q (Ok (Some a)) (ap (is_left_out without) number_is ∙ stays) (ap (packet_in p.channels) bytes_are ∙ found) in
       let grown = inside_some p without records q s some (inside_at p s (omega (arith, number_is, first)) (omega (arith, number_is, last))) in
       let inside = filtered_bound p without records (is_inside p) in
       let most = codes_from-most p old.fault.place (seen_inside p without records) s in

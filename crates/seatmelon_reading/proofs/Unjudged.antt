@@ -8,18 +8,18 @@ use Rattle.rasta_pcap.specs.Captured.{Captured, numbered}
 use Rattle.rasta_udp.specs.Frame.{Packet, packet_in}
 use Rattle.rasta_pdu.specs.Params.{Parameters}
 use Rattle.rasta_check.specs.Capture.Crossing.{Crossing, nothing_crossed}
-use Rattle.rasta_check.specs.Capture.Reading.{after_record, packet_found}
+use Rattle.rasta_check.specs.Capture.Reading.{after_record}
 use Rattle.seatmelon_reading.specs.Noted.{Seen, is_left_out, numbered_seen, seen_inside}
 use Rattle.seatmelon_reading.specs.Passing.{AreUnjudged}
 use Rattle.seatmelon_reading.specs.Reading.{HaveCrossed, standing_with}
-use Rattle.seatmelon_reading.specs.Tapes.{NumberedPacket, found_in, numbered_with, taped_in}
+use Rattle.seatmelon_reading.specs.Tapes.{NumberedPacket, numbered_with, taped_in}
 use Rattle.seatmelon_reading.specs.Times.{time_of}
 use Rattle.seatmelon_reading.specs.declared.capture_refusal.CaptureRefusal.{CaptureRefusal}
 use Rattle.seatmelon_reading.specs.declared.tape.Tape.{Tape}
 use Rattle.seatmelon_reading.proofs.Codes.{inside_some}
 use Rattle.seatmelon_reading.proofs.Crossed.{crossed_seen}
 use Rattle.seatmelon_reading.proofs.Stored.{stored_begun, taken_in}
-use Rattle.seatmelon_reading.proofs.Told.{none_same, packet_of_record}
+use Rattle.seatmelon_reading.proofs.Told.{packet_of_record}
 
 -- the packets of the connection in these records, as they are kept
 abbrev kept_of : Parameters → List ℕ → List Captured → List NumberedPacket
@@ -73,21 +73,20 @@ module _ (p : Parameters) (without : List ℕ) (records : List Captured) (q : Ca
 
   module _ (number : ℕ) (bytes : List ℕ) (is : numbered q ≡ (number, bytes)) (stays : is_left_out without number ≡ false) (first : p.first_record ≤ number) (last : number ≤ p.last_record) where
     -- a record of the window adds its packet
-    added_next : (o : Option Packet) → packet_found (packet_in p.channels bytes) ≡ o → kept_of p without (records ++ q ∷ []) ≡ kept_of p without records ++ found_in number o
-    added_next None found = ap (map numbered_seen) (none_same p without records q number bytes found is stays) ∙ sym (append-nil (kept_of p without records))
-    added_next (Some a) found =
+    added_next : (a : Packet) → packet_in p.channels bytes ≡ Ok (Some a) → kept_of p without (records ++ q ∷ []) ≡ kept_of p without records ++ numbered_with number a ∷ []
+    added_next a found =
         let s : Seen = record { captured = q; packet = a } in
         let here = packet_of_record true p without q a number bytes (time_of true q) found is refl stays first last in
         ap (map numbered_seen) (inside_some p without records q s here.seen here.inside) ∙ map_push numbered_seen (seen_inside p without records) s
         ∙ ap (λ (r : Numbered). kept_of p without records ++ numbered_with r.0 a ∷ []) is
 
     -- one that is kept
-    pub unjudged_next : (k n : Crossing) (t u : Tape) (o : Option Packet) → packet_found (packet_in p.channels bytes) ≡ o → n ≡ k → taped_in u ≡ taped_in t ++ found_in number o
+    pub unjudged_next : (k n : Crossing) (t u : Tape) (a : Packet) → packet_in p.channels bytes ≡ Ok (Some a) → n ≡ k → taped_in u ≡ taped_in t ++ numbered_with number a ∷ []
         → AreUnjudged p without records k t → AreUnjudged p without (records ++ q ∷ []) n u
-    unjudged_next k n t u o found same taped h = record {
+    unjudged_next k n t u a found same taped h = record {
       first = h.first;
       counted = h.counted ∙ ap (λ (c : Crossing). length c.packets) (sym same);
-      whole = added_next o found ∙ ap (λ l. l ++ found_in number o) h.whole ∙ append_assoc h.first (taped_in t) (found_in number o) ∙ ap (λ l. h.first ++ l) (sym taped);
+      whole = added_next a found ∙ ap (λ l. l ++ numbered_with number a ∷ []) h.whole ∙ append_assoc h.first (taped_in t) (numbered_with number a ∷ []) ∙ ap (λ l. h.first ++ l) (sym taped);
     }
 
 -- at the end, what is kept still is

@@ -4,6 +4,7 @@ pub mod Opened
 pub mod PassedOver
 pub mod Passing
 pub mod Reading
+pub mod Sights
 pub mod Silences
 pub mod Summing
 pub mod Tapes

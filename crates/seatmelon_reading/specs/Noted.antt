@@ -8,8 +8,6 @@ use Rattle.rasta_pcap.specs.declared.fault.Side.TheVariants.{Client, Server}
 use Rattle.rasta_pcap.specs.Captured.{Captured}
 use Rattle.rasta_udp.specs.Frame.{Packet, packet_in}
 use Rattle.rasta_pdu.specs.Params.{Parameters}
-use Rattle.rasta_check.specs.declared.passage.Passage.{Passage}
-use Rattle.rasta_check.specs.Capture.Passages.{passage_of}
 use Rattle.seatmelon_reading.specs.declared.notes.ChannelCount.{ChannelCount}
 use Rattle.seatmelon_reading.specs.PassedOver.{is_for, why_by}
 use Rattle.seatmelon_reading.specs.Tapes.{NumberedPacket, taped_in}
@@ -44,10 +42,6 @@ seen_in p without r = if is_left_out without r.number then None else seen_by r (
 abbrev pub why_passed : Parameters → List ℕ → Captured → Option WhyPassed
 why_passed p without r = if is_left_out without r.number then Some LeftOut
     else why_by p.channels r.bytes (packet_in p.channels r.bytes)
-
--- where it crossed
-abbrev pub passage_seen : Option Seen → Option Passage
-passage_seen s = option_map (λ (s : Seen). passage_of s.packet) s
 
 -- the packets of these records, in order
 abbrev pub all_seen : Parameters → List ℕ → List Captured → List Seen

@@ -1,22 +1,18 @@
 -- The reading of a known file on its way.
-use Rattle.std.specs.Prelude.{◌≡◌, ℕ, suc, ◌-◌, ◌<◌, ◌≤◌, List, [], ◌∷◌, ◌++◌, length, map, Bool, true, false, Option}
-use Rattle.std.specs.Prelude.{Some, Result, Ok, Err, ⊤}
+use Rattle.std.specs.Prelude.{◌≡◌, ℕ, suc, ◌<◌, ◌≤◌, List, [], ◌∷◌, ◌++◌, length, map, Bool, Option, None}
+use Rattle.std.specs.Prelude.{Some, Result, Ok}
 use Rattle.std.specs.Option.{ForSome}
 use Rattle.rasta_pcap.specs.declared.fault.Fault.{Fault}
-use Rattle.rasta_pcap.specs.declared.pcap.Endianness.{Endianness}
-use Rattle.rasta_pcap.specs.declared.stream.Progress.TheVariants.{Reading}
-use Rattle.rasta_pcap.specs.declared.stream.RecordReader.{RecordReader}
 use Rattle.rasta_pcap.specs.declared.time.CaptureTime.{CaptureTime}
-use Rattle.rasta_pcap.specs.declared.time.FractionUnit.{FractionUnit}
-use Rattle.rasta_pcap.specs.Capture.{Numbered, cursor_at, max_records, reading}
-use Rattle.rasta_pcap.specs.Captured.{Captured, captured_from, captured_in, numbered}
-use Rattle.rasta_pcap.specs.Stream.{count_in, order_in, progress_of, unit_in}
+use Rattle.rasta_pcap.specs.Capture.{Numbered}
+use Rattle.rasta_pcap.specs.Captured.{Captured, captured_in, numbered}
+use Rattle.rasta_pcap.specs.Walk.{StandsBehind}
 use Rattle.rasta_pdu.specs.Params.{Parameters}
 use Rattle.rasta_check.specs.Capture.Crossing.{Crossing, nothing_crossed}
-use Rattle.rasta_check.specs.Capture.Reading.{after_reading}
-use Rattle.seatmelon_reading.specs.Noted.{AreNotes, is_left_out, numbered_seen, seen_inside}
+use Rattle.rasta_check.specs.Capture.Reading.{after_records}
+use Rattle.seatmelon_reading.specs.Noted.{AreNotes, numbered_seen, seen_inside}
 use Rattle.rasta_check.specs.Capture.Building.{crossed_in}
-use Rattle.seatmelon_reading.specs.Reading.{HasCrossed, crossing_without, reading_without, standing_in}
+use Rattle.seatmelon_reading.specs.Reading.{HasCrossed, IsSameBut, after_end, crossing_without, judged_of, standing_in}
 use Rattle.seatmelon_reading.specs.Tapes.{NumberedPacket, taped_in}
 use Rattle.seatmelon_reading.specs.Told.{AreLower, IsTrueOf}
 use Rattle.seatmelon_reading.specs.declared.pass.Pass.{Pass}
@@ -40,10 +36,6 @@ abbrev pub TellsNext : Pass → Pass → Numbered → Option CaptureTime → Typ
 TellsNext old new r time = (records : List Captured) (q : Captured) → HasPassed old r.0 records
     → r.0 ≡ suc (length records) → numbered q ≡ r → time ≡ Some q.time → TellsTrue new (records ++ q ∷ [])
 
--- of a record that stays
-abbrev pub TellsStaying : Pass → Pass → Numbered → Option CaptureTime → Type 0
-TellsStaying old new r time = is_left_out old.without.now r.0 ≡ false → TellsNext old new r time
-
 -- what was true of the records so far, all of them before this place, still is
 abbrev pub TellsStill : Pass → Pass → ℕ → Type 0
 TellsStill old new place = (records : List Captured) → HasPassed old place records → TellsTrue new records
@@ -63,10 +55,6 @@ KeepsNext old new r = (records : List Captured) (q : Captured)
     → HasCrossed old.params old.without.now records (crossed_in old.builder) old.refusal
     → AreUnjudged old.params old.without.now records (crossed_in old.builder) old.unjudged → numbered q ≡ r
     → AreUnjudged old.params old.without.now (records ++ q ∷ []) (crossed_in new.builder) new.unjudged
-
--- of a record that stays
-abbrev pub KeepsStaying : Pass → Pass → Numbered → Type 0
-KeepsStaying old new r = is_left_out old.without.now r.0 ≡ false → KeepsNext old new r
 
 -- those of the records so far still are
 abbrev pub KeepsStill : Pass → Pass → Type 0
@@ -94,31 +82,6 @@ whole_of zero p without file = record {
   captured = captured_in file;
 }
 
--- what crosses by at most so many more records, where this stands so far
-abbrev pub outcome_left : List ℕ → Result Crossing Fault → ℕ → Endianness → List ℕ → ℕ → Result Crossing Fault
-outcome_left without (Err fault) left order rest count = Err fault
-outcome_left without (Ok k) left order rest count =
-    after_reading k (reading_without without (reading left (cursor_at order rest count)))
-
--- after so many records: what crosses by the whole file crosses by the rest, and what is noted is noted of the records
--- so far
-pub record IsOnWay (w : Whole) (order : Endianness) (unit : FractionUnit) (count : ℕ) (rest : List ℕ)
-    (pass : Pass) : Type 0 where
-  pub zero : pass.notes.zero_is_no_time ≡ w.zero
-  pub params : pass.params ≡ w.params
-  pub without : pass.without.now ≡ w.without
-  pub done : List Captured
-  pub counted : length done ≡ count
-  pub within : w.params.last_record ≤ max_records
-  pub standing : outcome_left w.without (standing_in pass) (w.params.last_record - count) order rest count ≡ w.crossed
-  pub captured : done ++ captured_from (max_records - count) unit (cursor_at order rest count) ≡ w.captured
-  pub noted : AreNotes w.params w.without done pass.notes
-  pub told : ForSome pass.refusal (IsTrueOf w.zero w.params w.without done)
-  pub lower : AreLower (suc count) done
-  pub stored : HasCrossed w.params w.without done (crossed_in pass.builder) pass.refusal
-  pub unjudged : AreUnjudged w.params w.without done (crossed_in pass.builder) pass.unjudged
-  pub refused : ForSome pass.refusal (λ r. r.fault.place ≤ count)
-
 -- at the end
 pub record IsThrough (w : Whole) (pass : Pass) : Type 0 where
   pub zero : pass.notes.zero_is_no_time ≡ w.zero
@@ -127,25 +90,6 @@ pub record IsThrough (w : Whole) (pass : Pass) : Type 0 where
   pub told : ForSome pass.refusal (IsTrueOf w.zero w.params w.without w.captured)
   pub stored : HasCrossed w.params w.without w.captured (crossed_in pass.builder) pass.refusal
   pub unjudged : AreUnjudged w.params w.without w.captured (crossed_in pass.builder) pass.unjudged
-
--- the input is known, and a reader stands so on the way
-abbrev pub ReaderOnWay : Whole → RecordReader → Option (List ℕ) → Pass → Type 0
-ReaderOnWay w records input pass = (rest : List ℕ) × (input ≡ Some rest)
-    × IsOnWay w (order_in records) (unit_in records) (count_in records) rest pass
-
--- after one more record it is on the way, and where there was none it is through
-abbrev pub StepsTo : Bool → Whole → RecordReader → Option (List ℕ) → Pass → Type 0
-StepsTo true w records input pass = ReaderOnWay w records input pass
-StepsTo false w records input pass = IsThrough w pass
-
--- the reading goes on after one more record
-pub record ReadsOn (old new : RecordReader) : Type 0 where
-  pub reading : progress_of new ≡ Reading
-  pub count : count_in new ≡ suc (count_in old)
-
-abbrev pub ReadsOnIf : Bool → RecordReader → RecordReader → Type 0
-ReadsOnIf true old new = ReadsOn old new
-ReadsOnIf false old new = ⊤
 
 -- nothing was read
 pub record IsBegun (pass : Pass) : Type 0 where
@@ -156,3 +100,29 @@ pub record IsBegun (pass : Pass) : Type 0 where
 -- a file was passed
 abbrev pub IsPassed : List ℕ → Pass → Pass → Type 0
 IsPassed file old new = IsBegun old → IsThrough (whole_of old.notes.zero_is_no_time old.params old.without.now file) new
+
+-- ---- along the records
+
+-- what crossed by these records, up to the last one of the window, or the first fault
+abbrev pub crossed_by : Parameters → List ℕ → List Captured → Result Crossing Fault
+crossed_by p without records = after_records (nothing_crossed p) (judged_of p without records) None
+
+-- these records were passed
+pub record HasSeen (pass : Pass) (done : List Captured) : Type 0 where
+  pub standing : standing_in pass ≡ crossed_by pass.params pass.without.now done
+  pub noted : AreNotes pass.params pass.without.now done pass.notes
+  pub told : TellsTrue pass done
+  pub lower : AreLower (suc (length done)) done
+  pub stored : HasCrossed pass.params pass.without.now done (crossed_in pass.builder) pass.refusal
+  pub unjudged : AreUnjudged pass.params pass.without.now done (crossed_in pass.builder) pass.unjudged
+  pub refused : ForSome pass.refusal (λ r. r.fault.place ≤ length done)
+
+-- these records were passed, and then the fault that ended them was taken in
+pub record HasEnded (new : Pass) (done : List Captured) (fault : Fault) : Type 0 where
+  pub old : Pass
+  pub seen : HasSeen old done
+  pub behind : StandsBehind fault done
+  pub standing : standing_in new ≡ after_end old.params (standing_in old) fault
+  pub kept : IsSameBut old new
+  pub still : TellsStill old new fault.place
+  pub keeps : KeepsStill old new

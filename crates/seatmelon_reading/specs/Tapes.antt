@@ -1,5 +1,5 @@
 -- The packets of a connection that are kept, on demand or behind what crossed.
-use Rattle.std.specs.Prelude.{ℕ, List, [], ◌∷◌, map, Option, None, Some}
+use Rattle.std.specs.Prelude.{ℕ, List, map}
 use Rattle.rasta_udp.specs.Frame.{Packet}
 use Rattle.seatmelon_reading.specs.declared.tape.Tape.{Tape}
 use Rattle.seatmelon_reading.specs.declared.tape.Taped.{Taped}
@@ -21,8 +21,3 @@ taped_as t = record {
 -- those that are kept, by place
 abbrev pub taped_in : Tape → List NumberedPacket
 taped_in t = map taped_as t.packets.items
-
--- that of a record, if it holds one
-abbrev pub found_in : ℕ → Option Packet → List NumberedPacket
-found_in number None = []
-found_in number (Some packet) = numbered_with number packet ∷ []

@@ -2,11 +2,11 @@
 use Rattle.std.specs.Prelude.{◌≡◌, ◌<◌, ◌≤◌, ◌⊎◌, ℕ, Option, None, Some}
 use Rattle.rasta_pdu.specs.Params.{Parameters}
 use Rattle.seatmelon_reading.specs.declared.window.Window.{Window}
-use Rattle.seatmelon_reading.specs.declared.window.Standing.{Standing}
-use Rattle.seatmelon_reading.specs.declared.window.Standing.TheVariants.{Before, Inside, Behind}
+use Rattle.seatmelon_reading.specs.declared.window.WindowPlace.{WindowPlace}
+use Rattle.seatmelon_reading.specs.declared.window.WindowPlace.TheVariants.{Before, Inside, Behind}
 
 -- the record of this number stands so to the window
-abbrev pub StandsSo : Parameters → ℕ → Standing → Type 0
+abbrev pub StandsSo : Parameters → ℕ → WindowPlace → Type 0
 StandsSo p number Before = number < p.first_record
 StandsSo p number Inside = (p.first_record ≤ number) × (number ≤ p.last_record)
 StandsSo p number Behind = (p.first_record ≤ number) × (p.last_record < number)

@@ -3,7 +3,6 @@ ghost use Rattle.std.specs.Prelude.{◌≡◌, ◌⊎◌, ◌<◌, ◌^◌, Some
 ghost use Rattle.std.specs.Option.{ForSome};
 ghost use Rattle.rasta_pcap.specs.Fault.{no_memory};
 ghost use Rattle.rasta_udp.specs.Frame.{packet_of};
-ghost use Rattle.rasta_check.specs.Capture.Crossing.{sent_by};
 ghost use Rattle.seatmelon_reading.specs.Codes.{codes_next};
 ghost use Rattle.seatmelon_reading.specs.Told.{HasBeenFound, due_of, number_due};
 
@@ -55,16 +54,6 @@ pub struct CaptureRefusal {
     wanted: Option<Wanted>,
 }
 
-// What an end sent.
-fn list_of(store: &Store, side: Side) -> SpanList<'_>
-    ensures { result ≡ sent_by store.now side }
-{
-    match side {
-        Side::Client => store.client(),
-        Side::Server => store.server(),
-    }
-}
-
 // A copy of these bytes.
 fn copied(alloc: Global, bytes: &[u8]) -> Result<Vec<u8>, Fault>
     ensures copy { IfOk result (λ copy. copy.items ≡ bytes.now) }
@@ -87,7 +76,7 @@ fn next_number(list: &SpanList<'_>) -> Option<u32>
 fn due_of(store: &Store, fault: Fault) -> Option<u32>
     ensures { result ≡ due_of store.now fault }
 {
-    next_number(&list_of(store, fault.end?))
+    next_number(&store.list_of(fault.end?))
 }
 
 // The first copy that crossed with the number that is asked for.
@@ -100,7 +89,7 @@ fn packet_beside(
     ensures found { IfOk result (λ o. ForSome o (HasBeenFound store.now notes.now.packets.items wanted)) }
     ensures err { IfErr result (λ f. f ≡ no_memory) }
 {
-    let Some(position) = list_of(store, wanted.side).position_of(wanted.number) else {
+    let Some(position) = store.list_of(wanted.side).position_of(wanted.number) else {
         return Ok(None);
     };
     let Some((place, bytes)) = store.datagram(wanted.side, position) else {

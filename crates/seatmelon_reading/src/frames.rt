@@ -1,29 +1,17 @@
-//! The packet of the recorded channels that a record holds, or why it holds none.
-ghost use Rattle.std.specs.Prelude.{◌≡◌, ◌+◌, ◌≤◌, length, option_map, Some, None};
-ghost use Rattle.rasta_pcap.specs.Captured.{Captured, numbered};
-ghost use Rattle.rasta_udp.specs.Frame.{fields_of, packet_in, packet_of};
-ghost use Rattle.rasta_check.specs.Capture.Reading.{packet_found};
-ghost use Rattle.seatmelon_reading.specs.Noted.{seen_in, why_passed};
+//! Why a frame holds no packet of the recorded channels.
+ghost use Rattle.std.specs.Prelude.{◌≡◌, ◌≤◌, length};
+ghost use Rattle.rasta_udp.specs.Frame.{fields_of, packet_in};
 ghost use Rattle.seatmelon_reading.specs.PassedOver.{has_outer_tag, is_behind_tag, is_behind_tags, is_of_channels, is_udp, untagged, why_not};
 
 use crate::passed_over::WhyPassed;
-use rasta_pcap::Record;
-use rasta_pdu::Params;
 use rasta_udp::fields::{header_length, is_tagged, u16_at};
 use rasta_udp::layout::{
     IPV4, LEAST_IPV4_FRAME, LEAST_IPV4_HEADER, PROTOCOL_AT, TAG, TAGGED, TYPE_AT, UDP, VERSION_AT,
 };
-use rasta_udp::{Channel, Datagram, datagram_in};
+use rasta_udp::{Channel, datagram_in};
 
 // The type field of Ethernet II of a tag of IEEE 802.1ad.
 const SERVICE_TAGGED: u16 = 0x88a8;
-
-/// The packet of a record, if it holds one of the recorded channels.
-pub fn packet<'r>(params: &Params, record: &Record<'r>) -> Option<Datagram<'r>>
-    ensures { option_map packet_of result ≡ packet_found (packet_in params.now.channels «record».now.bytes.now) }
-{
-    datagram_in(record.bytes, params.channel()).ok()?
-}
 
 // Whether a frame without a tag holds UDP over IPv4.
 fn is_udp(frame: &[u8]) -> bool
@@ -87,8 +75,8 @@ fn is_behind_tags(frame: &[u8], channels: &[Channel]) -> bool
         && (is_behind_tag(frame, channels) || is_behind_tag(&frame[TAG..], channels))
 }
 
-// Why a frame holds no packet of the channels, and no faulty one of their hosts.
-fn why_not(frame: &[u8], channels: &[Channel]) -> WhyPassed
+/// Why a frame holds no packet of the channels, and no faulty one of their hosts.
+pub fn why_not(frame: &[u8], channels: &[Channel]) -> WhyPassed
     requires { length channels.now ≤ 255 }
     ensures { result ≡ why_not channels.now frame.now }
 {
@@ -98,19 +86,5 @@ fn why_not(frame: &[u8], channels: &[Channel]) -> WhyPassed
         WhyPassed::Elsewhere
     } else {
         WhyPassed::NotUdp
-    }
-}
-
-/// Why a record holds no packet of the recorded channels.
-pub fn why_passed(params: &Params, without: &[u32], record: &Record<'_>) -> WhyPassed
-    ensures { (r : Captured) → numbered r ≡ («record».now.number, «record».now.bytes.now) → seen_in params.now without.now r ≡ None
-        → why_passed params.now without.now r ≡ Some result }
-{
-    if without.contains(&record.number) {
-        return WhyPassed::LeftOut;
-    }
-    match datagram_in(record.bytes, params.channel()) {
-        Ok(_) => why_not(record.bytes, params.channel()),
-        Err(_) => WhyPassed::Unreadable,
     }
 }

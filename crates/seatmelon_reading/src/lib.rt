@@ -9,6 +9,7 @@ mod notes;
 mod pass;
 mod passed_over;
 mod reading;
+mod sight;
 mod silence;
 mod summed;
 mod tape;

@@ -4,17 +4,18 @@ ghost use Rattle.seatmelon_reading.specs.Times.{time_of};
 ghost use Rattle.rasta_pcap.specs.Captured.{Captured, numbered};
 ghost use Rattle.rasta_pcap.specs.Fault.{no_memory};
 ghost use Rattle.rasta_pdu.specs.Params.{Parameters};
-ghost use Rattle.rasta_check.specs.Capture.Passages.{passage_of};
-ghost use Rattle.seatmelon_reading.specs.Noted.{AreNotes, SameOutside, Seen, count_with, counts_of, last_inside, passage_seen, seen_in, why_passed};
+ghost use Rattle.rasta_udp.specs.Frame.{packet_of};
+ghost use Rattle.seatmelon_reading.specs.Noted.{AreNotes, SameOutside, Seen, count_with, counts_of, last_inside, seen_in, why_passed};
+ghost use Rattle.seatmelon_reading.specs.Sights.{IsSightOf};
+ghost use Rattle.seatmelon_reading.specs.Window.{StandsSo};
 
-use crate::frames::why_passed;
 use crate::passed_over::{PassedOver, WhyPassed};
+use crate::sight::Sight;
 use crate::tape::Tape;
 use crate::times::{TimeNotes, time_told};
-use crate::window::{Standing, standing_of};
-use rasta_check::Passage;
-use rasta_pcap::{CaptureTime, Fault, Record, Side};
-use rasta_pdu::Params;
+use crate::window::WindowPlace;
+use rasta_pcap::{CaptureTime, Fault, Side};
+use rasta_udp::Datagram;
 use std::alloc::{AllocError, Global};
 
 /// Where and when a packet was captured, on which channel, and who sent it.
@@ -107,31 +108,31 @@ fn place_of(channel: u8) -> usize
     usize::from(channel.wrapping_sub(1))
 }
 
-// Counts a packet that crossed so.
-fn count(channels: &mut [ChannelCount; 4], passage: Passage)
-    ensures { (seen : List Seen) (s : Seen) → channels.old ≡ counts_of seen → length seen < 2 ^ 32 → passage ≡ passage_of s.packet
-        → channels.new ≡ counts_of (seen ++ s ∷ []) }
+// Counts a packet that an end sent on a channel.
+fn count(channels: &mut [ChannelCount; 4], channel: u8, sender: Side)
+    ensures { (seen : List Seen) (s : Seen) → channels.old ≡ counts_of seen → length seen < 2 ^ 32 → channel ≡ s.packet.channel
+        → sender ≡ s.packet.side → channels.new ≡ counts_of (seen ++ s ∷ []) }
 {
-    let place = place_of(passage.channel);
+    let place = place_of(channel);
     if place < channels.len() {
-        channels[place] = channels[place].with(passage.side);
+        channels[place] = channels[place].with(sender);
     }
 }
 
-// The last record of the window, with one record more, which was captured at this time, if it has one.
+// The last record of the window, with one record more, which stands so to it and was captured at this time, if it has one.
 fn last_with(
-    params: &Params,
     last: Option<LastRecord>,
     number: u32,
     time: Option<CaptureTime>,
+    place: WindowPlace,
 ) -> Option<LastRecord>
-    ensures { (zero : Bool) (records : List Captured) (r : Captured) → last ≡ last_inside params.now zero records → r.number ≡ number
-        → time ≡ time_of zero r → result ≡ last_inside params.now zero (records ++ r ∷ []) }
+    ensures { (p : Parameters) (zero : Bool) (records : List Captured) (r : Captured) → last ≡ last_inside p zero records → r.number ≡ number
+        → time ≡ time_of zero r → StandsSo p number place → result ≡ last_inside p zero (records ++ r ∷ []) }
 {
-    match standing_of(params, number) {
-        Standing::Inside => Some(LastRecord { number, time }),
-        Standing::Before => last,
-        Standing::Behind => last,
+    match place {
+        WindowPlace::Inside => Some(LastRecord { number, time }),
+        WindowPlace::Before => last,
+        WindowPlace::Behind => last,
     }
 }
 
@@ -159,92 +160,88 @@ impl Notes {
         }
     }
 
-    // Takes in a record without a packet of the recorded channels, when it was captured, if it has a time, and why.
-    fn pass(&mut self, params: &Params, number: u32, time: Option<CaptureTime>, why: WhyPassed)
-        ensures noted { (without : List ℕ) (records : List Captured) (r : Captured) → AreNotes params.now without records self.old
-            → r.number ≡ number → number ≡ suc (length records) → time ≡ time_of self.old.zero_is_no_time r → seen_in params.now without r ≡ None
-            → why_passed params.now without r ≡ Some why → AreNotes params.now without (records ++ r ∷ []) self.new }
+    // Takes in a record without a packet of the recorded channels, when it was captured, if it has a time, how it stands to
+    // the window, and why.
+    fn pass(&mut self, number: u32, time: Option<CaptureTime>, place: WindowPlace, why: WhyPassed)
+        ensures noted { (p : Parameters) (without : List ℕ) (records : List Captured) (r : Captured) → AreNotes p without records self.old
+            → r.number ≡ number → number ≡ suc (length records) → time ≡ time_of self.old.zero_is_no_time r → StandsSo p number place
+            → seen_in p without r ≡ None → why_passed p without r ≡ Some why → AreNotes p without (records ++ r ∷ []) self.new }
         ensures kept { self.new.zero_is_no_time ≡ self.old.zero_is_no_time }
     {
         self.records = number;
         self.times.add(number, time);
-        self.last = last_with(params, self.last, number, time);
+        self.last = last_with(self.last, number, time, place);
         self.passed = self.passed.with(why);
     }
 
     // Takes in a packet in the window.
-    fn add_inside(&mut self, sighting: Sighting, passage: Passage) -> Result<(), AllocError>
+    fn add_inside(&mut self, sighting: Sighting) -> Result<(), AllocError>
         ensures packets { OnOk result (self.new.packets.items ≡ self.old.packets.items ++ sighting ∷ []) }
-        ensures channels { (seen : List Seen) (s : Seen) → self.old.channels ≡ counts_of seen → length seen < 2 ^ 32 → passage ≡ passage_of s.packet
+        ensures channels { (seen : List Seen) (s : Seen) → self.old.channels ≡ counts_of seen → length seen < 2 ^ 32
+            → sighting.channel ≡ s.packet.channel → sighting.sender ≡ s.packet.side
             → OnOk result (self.new.channels ≡ counts_of (seen ++ s ∷ [])) }
         ensures kept { SameOutside self.old self.new }
     {
         self.packets.push(sighting)?;
-        count(&mut self.channels, passage);
+        count(&mut self.channels, sighting.channel, sighting.sender);
         Ok(())
     }
 
-    // Takes in a record, which was captured at this time, if it has one, and where its packet crossed.
+    // Takes in a record with a packet, when it was captured, if it has a time, and how it stands to the window.
     fn add(
         &mut self,
         alloc: Global,
-        params: &Params,
-        record: &Record<'_>,
+        number: u32,
         time: Option<CaptureTime>,
-        passage: Passage,
+        place: WindowPlace,
+        found: &Datagram<'_>,
     ) -> Result<(), Fault>
-        ensures noted { OnOk result ((without : List ℕ) (records : List Captured) (s : Seen) → AreNotes params.now without records self.old
-            → numbered s.captured ≡ («record».now.number, «record».now.bytes.now) → s.captured.number ≡ suc (length records)
-            → time ≡ time_of self.old.zero_is_no_time s.captured
-            → seen_in params.now without s.captured ≡ Some s → passage ≡ passage_of s.packet
-            → AreNotes params.now without (records ++ s.captured ∷ []) self.new) }
+        ensures noted { OnOk result ((p : Parameters) (without : List ℕ) (records : List Captured) (s : Seen) → AreNotes p without records self.old
+            → s.captured.number ≡ number → s.captured.number ≡ suc (length records) → time ≡ time_of self.old.zero_is_no_time s.captured
+            → StandsSo p number place → seen_in p without s.captured ≡ Some s → s.packet ≡ packet_of found.now
+            → AreNotes p without (records ++ s.captured ∷ []) self.new) }
         ensures kept { self.new.zero_is_no_time ≡ self.old.zero_is_no_time }
         ensures err { IfErr result (λ f. f ≡ no_memory) }
     {
-        let number = record.number;
         self.records = number;
         self.times.add(number, time);
-        self.last = last_with(params, self.last, number, time);
-        match standing_of(params, number) {
-            Standing::Before => self.before = self.before.saturating_add(1),
-            Standing::Behind => self.behind = self.behind.saturating_add(1),
-            Standing::Inside => {
-                let sighting = Sighting {
+        self.last = last_with(self.last, number, time, place);
+        match place {
+            WindowPlace::Before => self.before = self.before.saturating_add(1),
+            WindowPlace::Behind => self.behind = self.behind.saturating_add(1),
+            WindowPlace::Inside => {
+                self.add_inside(Sighting {
                     record: number,
                     time,
-                    channel: passage.channel,
-                    sender: passage.side,
-                };
-                self.add_inside(sighting, passage)?;
-                self.tape.add(alloc, params, record)?;
+                    channel: found.channel,
+                    sender: found.side,
+                })?;
+                self.tape.add(alloc, number, found)?;
             }
         }
         Ok(())
     }
 
-    /// Takes in a record, of which this time was read, and where its packet crossed, if it holds one of the recorded
-    /// channels.
+    /// Takes in what a record holds, of which this time was read, and how it stands to the window.
     pub fn note(
         &mut self,
         alloc: Global,
-        params: &Params,
-        without: &[u32],
-        record: &Record<'_>,
+        number: u32,
         time: Option<CaptureTime>,
-        passage: Option<Passage>,
+        place: WindowPlace,
+        sight: &Sight<'_>,
     ) -> Result<(), Fault>
-        ensures noted { OnOk result ((records : List Captured) (r : Captured) → AreNotes params.now without.now records self.old
-            → numbered r ≡ («record».now.number, «record».now.bytes.now) → r.number ≡ suc (length records) → time ≡ Some r.time
-            → passage ≡ passage_seen (seen_in params.now without.now r) → AreNotes params.now without.now (records ++ r ∷ []) self.new) }
+        ensures noted { OnOk result ((p : Parameters) (without : List ℕ) (records : List Captured) (r : Captured) → AreNotes p without records self.old
+            → r.number ≡ number → r.number ≡ suc (length records) → time ≡ Some r.time → StandsSo p number place
+            → IsSightOf p without (numbered r) sight.now → AreNotes p without (records ++ r ∷ []) self.new) }
         ensures kept { self.new.zero_is_no_time ≡ self.old.zero_is_no_time }
         ensures err { IfErr result (λ f. f ≡ no_memory) }
     {
         let time = time_told(self.zero_is_no_time, time);
-        match passage {
-            Some(passage) => self.add(alloc, params, record, time, passage),
-            None => {
-                let why = why_passed(params, without, record);
-                self.pass(params, record.number, time, why);
+        match sight.packet() {
+            Ok(found) => self.add(alloc, number, time, place, found),
+            Err(why) => {
+                self.pass(number, time, place, why);
                 Ok(())
             }
         }

@@ -1,32 +1,35 @@
 //! The records of a capture, one after the other: what crosses by them, and what is noted of them.
-ghost use Rattle.std.specs.Prelude.{◌≡◌, ◌≢◌, ◌≤◌, ◌⊎◌, ◌↔◌, IsTrue, true, suc, ◌++◌, ◌∷◌, [], List, length, option_map, Ok, Err, None, Some, IfErr, IfOk, OnOk};
+ghost use Rattle.std.specs.Prelude.{◌≡◌, ◌≢◌, ◌≤◌, ◌⊎◌, false, true, suc, ◌++◌, ◌∷◌, [], List, length, Ok, Err, None, Some, IfErr, OnOk};
 ghost use Rattle.std.specs.Option.{ForSome};
 ghost use Rattle.rasta_pcap.specs.Captured.{Captured, numbered};
 ghost use Rattle.rasta_pcap.specs.Fault.{no_memory, read_failed};
-ghost use Rattle.rasta_udp.specs.Frame.{packet_in};
+ghost use Rattle.rasta_udp.specs.Frame.{packet_in, packet_of};
 ghost use Rattle.rasta_pdu.specs.Params.{IsWindow};
 ghost use Rattle.rasta_check.specs.Capture.Building.{crossed_in};
-ghost use Rattle.rasta_check.specs.Capture.Passages as passages;
 ghost use Rattle.rasta_check.specs.Capture.Crossing.{nothing_crossed};
-ghost use Rattle.rasta_check.specs.Capture.Reading.{packet_found};
-ghost use Rattle.seatmelon_reading.specs.Noted.{AreNotes, passage_seen, seen_in};
+ghost use Rattle.seatmelon_reading.specs.Noted.{AreNotes, is_left_out};
+ghost use Rattle.seatmelon_reading.specs.Sights.{IsSightOf};
 ghost use Rattle.seatmelon_reading.specs.Tapes.{taped_in};
 ghost use Rattle.seatmelon_reading.specs.Told.{IsAskedFor, due_of};
+ghost use Rattle.seatmelon_reading.specs.Window.{StandsSo};
 
 use crate::capture_refusal::CaptureRefusal;
-use crate::frames::packet;
 use crate::notes::{Notes, Sighting};
+use crate::sight::Sight;
 use crate::tape::Tape;
 use crate::times::time_told;
-use crate::window::{Standing, standing_of};
-use rasta_check::{Passage, StoreBuilder};
+use crate::window::{WindowPlace, window_place};
+use rasta_check::StoreBuilder;
+use rasta_pcap::walk::Visitor;
 use rasta_pcap::{CaptureTime, Fault, Record};
 use rasta_pdu::Params;
+use rasta_udp::Datagram;
 use std::alloc::Global;
 
 /// A reading on its way.
 #[derive(Drop)]
 pub struct Pass<'a> {
+    alloc: Global,
     pub(crate) params: Params,
     // The records that are left out.
     pub(crate) without: &'a [u32],
@@ -43,17 +46,9 @@ pub struct Pass<'a> {
     ghost taping: { unjudged.is_kept ≡ true },
 }
 
-// Where the packet of a record crossed, if it holds one of the recorded channels.
-fn passage_in(params: &Params, record: &Record<'_>) -> Option<Passage>
-    ensures { result ≡ passages.passage_in (packet_found (packet_in params.now.channels «record».now.bytes.now)) }
-{
-    let found = packet(params, record)?;
-    Some(Passage::of(&found))
-}
-
 impl<'a> Pass<'a> {
-    ghost use Rattle.seatmelon_reading.specs.Reading.{IsSameBut, StaysOnceRefused, after_end, after_judged, after_next, standing_in};
-    ghost use Rattle.seatmelon_reading.specs.Passing.{KeepsNext, KeepsStaying, KeepsStill, TellsNext, TellsStaying, TellsStill};
+    ghost use Rattle.seatmelon_reading.specs.Reading.{IsSameBut, StaysOnceRefused, after_end, after_next, standing_in};
+    ghost use Rattle.seatmelon_reading.specs.Passing.{KeepsNext, KeepsStill, TellsNext, TellsStill};
     ghost use Rattle.seatmelon_reading.specs.Told.{IsMadeOf};
 
     /// Before the first record.
@@ -72,6 +67,7 @@ impl<'a> Pass<'a> {
         ensures unjudged { taped_in result.unjudged ≡ [] }
     {
         Pass {
+            alloc,
             params: *params,
             without,
             builder: StoreBuilder::new(alloc, *params),
@@ -82,13 +78,7 @@ impl<'a> Pass<'a> {
     }
 
     // Keeps why the capture is refused. A lack of memory, and a failed read, are errors.
-    fn refuse(
-        &mut self,
-        alloc: Global,
-        fault: Fault,
-        frame: &[u8],
-        time: Option<CaptureTime>,
-    ) -> Result<(), Fault>
+    fn refuse(&mut self, fault: Fault, frame: &[u8], time: Option<CaptureTime>) -> Result<(), Fault>
         ensures standing { OnOk result (standing_in self.new ≡ Err fault) }
         ensures made { OnOk result (ForSome self.new.refusal (IsMadeOf self.old.params (crossed_in self.old.builder) fault frame.now time self.old.notes)) }
         ensures told { OnOk result ((fault ≢ no_memory) × (fault ≢ read_failed)) }
@@ -101,7 +91,7 @@ impl<'a> Pass<'a> {
         }
         let store = self.builder.store();
         let refusal = CaptureRefusal::new(
-            alloc,
+            self.alloc,
             &self.params,
             store,
             &self.notes,
@@ -113,117 +103,117 @@ impl<'a> Pass<'a> {
         Ok(())
     }
 
-    // Judges a record of the window, and answers where its packet crossed. That of a refused one is kept.
-    fn judge(
+    // Takes in a packet of the window, where nothing is refused. A refused one is kept.
+    fn take(
         &mut self,
-        alloc: Global,
         record: &Record<'_>,
         time: Option<CaptureTime>,
-    ) -> Result<Option<Passage>, Fault>
+        found: &Datagram<'_>,
+    ) -> Result<(), Fault>
         requires none { self.old.refusal ≡ None }
         requires inside { (self.old.params.first_record ≤ «record».now.number) × («record».now.number ≤ self.old.params.last_record) }
+        requires stays { is_left_out self.old.without.now «record».now.number ≡ false }
+        requires found { packet_in self.old.params.channels «record».now.bytes.now ≡ Ok (Some (packet_of found.now)) }
         ensures standing { OnOk result (standing_in self.new
-            ≡ after_judged self.old.params (standing_in self.old) («record».now.number, «record».now.bytes.now)) }
-        ensures told { OnOk result (TellsStaying self.old self.new («record».now.number, «record».now.bytes.now) time) }
-        ensures unjudged { OnOk result (KeepsStaying self.old self.new («record».now.number, «record».now.bytes.now)) }
-        ensures found { IfOk result (λ o. o ≡ passages.passage_in (packet_found (packet_in self.old.params.channels «record».now.bytes.now))) }
+            ≡ after_next self.old.params self.old.without.now (standing_in self.old) («record».now.number, «record».now.bytes.now)) }
+        ensures told { OnOk result (TellsNext self.old self.new («record».now.number, «record».now.bytes.now) time) }
+        ensures unjudged { OnOk result (KeepsNext self.old self.new («record».now.number, «record».now.bytes.now)) }
         ensures kept { IsSameBut self.old self.new }
         ensures err { IfErr result (λ f. (f ≡ no_memory) ⊎ (f ≡ read_failed)) }
     {
-        match self.builder.add(record) {
-            Ok(passage) => Ok(passage),
+        match self.builder.add_packet(record.number, found) {
+            Ok(()) => Ok(()),
             Err(fault) => {
-                self.refuse(alloc, fault, record.bytes, time)?;
-                self.unjudged.add(alloc, &self.params, record)?;
-                Ok(passage_in(&self.params, record))
+                self.refuse(fault, record.bytes, time)?;
+                self.unjudged.add(self.alloc, record.number, found)?;
+                Ok(())
             }
         }
     }
 
-    // Keeps the packet of a record of the window behind the refused one, and looks at it.
+    // Keeps a packet of the window behind the refused one, and looks at it.
     fn look_at(
         &mut self,
-        alloc: Global,
         record: &Record<'_>,
         time: Option<CaptureTime>,
-    ) -> Result<Option<Passage>, Fault>
+        found: &Datagram<'_>,
+    ) -> Result<(), Fault>
         requires inside { (self.old.params.first_record ≤ «record».now.number) × («record».now.number ≤ self.old.params.last_record) }
+        requires stays { is_left_out self.old.without.now «record».now.number ≡ false }
+        requires found { packet_in self.old.params.channels «record».now.bytes.now ≡ Ok (Some (packet_of found.now)) }
         ensures standing { OnOk result (standing_in self.new ≡ standing_in self.old) }
-        ensures told { OnOk result (TellsStaying self.old self.new («record».now.number, «record».now.bytes.now) time) }
-        ensures unjudged { OnOk result (KeepsStaying self.old self.new («record».now.number, «record».now.bytes.now)) }
-        ensures found { IfOk result (λ o. o ≡ passages.passage_in (packet_found (packet_in self.old.params.channels «record».now.bytes.now))) }
+        ensures told { OnOk result (TellsNext self.old self.new («record».now.number, «record».now.bytes.now) time) }
+        ensures unjudged { OnOk result (KeepsNext self.old self.new («record».now.number, «record».now.bytes.now)) }
         ensures kept { IsSameBut self.old self.new }
         ensures err { IfErr result (λ f. (f ≡ no_memory) ⊎ (f ≡ read_failed)) }
     {
-        let Some(found) = packet(&self.params, record) else {
-            return Ok(None);
-        };
-        self.unjudged.push(alloc, record.number, &found)?;
+        self.unjudged.add(self.alloc, record.number, found)?;
         let sighting = Sighting {
             record: record.number,
             time: time_told(self.notes.zero_is_no_time, time),
             channel: found.channel,
             sender: found.side,
         };
-        if let Some(refusal) = &mut self.refusal {
-            refusal.look_at(alloc, &self.params, sighting, &found)?;
-        }
-        Ok(Some(Passage::of(&found)))
-    }
-
-    // Takes in what a record holds, and answers where its packet crossed.
-    fn pass(
-        &mut self,
-        alloc: Global,
-        record: &Record<'_>,
-        time: Option<CaptureTime>,
-    ) -> Result<Option<Passage>, Fault>
-        ensures standing { OnOk result (standing_in self.new
-            ≡ after_judged self.old.params (standing_in self.old) («record».now.number, «record».now.bytes.now)) }
-        ensures told { OnOk result (TellsStaying self.old self.new («record».now.number, «record».now.bytes.now) time) }
-        ensures unjudged { OnOk result (KeepsStaying self.old self.new («record».now.number, «record».now.bytes.now)) }
-        ensures found { IfOk result (λ o. o ≡ passages.passage_in (packet_found (packet_in self.old.params.channels «record».now.bytes.now))) }
-        ensures kept { IsSameBut self.old self.new }
-        ensures err { IfErr result (λ f. (f ≡ no_memory) ⊎ (f ≡ read_failed)) }
-    {
-        match standing_of(&self.params, record.number) {
-            Standing::Inside if self.refusal.is_none() => self.judge(alloc, record, time),
-            Standing::Inside => self.look_at(alloc, record, time),
-            Standing::Before | Standing::Behind => Ok(passage_in(&self.params, record)),
+        match &mut self.refusal {
+            Some(refusal) => refusal.look_at(self.alloc, &self.params, sighting, found),
+            None => Ok(()),
         }
     }
 
-    // Takes in what the next record holds, and answers where its packet crossed; of a record that is left out, none.
-    fn pass_next(
+    // Judges what a record of the window holds.
+    fn judge(
         &mut self,
-        alloc: Global,
         record: &Record<'_>,
         time: Option<CaptureTime>,
-    ) -> Result<Option<Passage>, Fault>
+        sight: &Sight<'_>,
+    ) -> Result<(), Fault>
+        requires inside { (self.old.params.first_record ≤ «record».now.number) × («record».now.number ≤ self.old.params.last_record) }
+        requires sight { IsSightOf self.old.params self.old.without.now («record».now.number, «record».now.bytes.now) sight.now }
         ensures standing { OnOk result (standing_in self.new
             ≡ after_next self.old.params self.old.without.now (standing_in self.old) («record».now.number, «record».now.bytes.now)) }
         ensures told { OnOk result (TellsNext self.old self.new («record».now.number, «record».now.bytes.now) time) }
         ensures unjudged { OnOk result (KeepsNext self.old self.new («record».now.number, «record».now.bytes.now)) }
-        ensures found { IfOk result (λ o. (r : Captured) → numbered r ≡ («record».now.number, «record».now.bytes.now)
-            → o ≡ passage_seen (seen_in self.old.params self.old.without.now r)) }
         ensures kept { IsSameBut self.old self.new }
         ensures err { IfErr result (λ f. (f ≡ no_memory) ⊎ (f ≡ read_failed)) }
     {
-        if self.without.contains(&record.number) {
-            return Ok(None);
+        match sight {
+            Sight::Packet(found) if self.refusal.is_none() => self.take(record, time, found),
+            Sight::Packet(found) => self.look_at(record, time, found),
+            Sight::Unreadable(fault) if self.refusal.is_none() => {
+                let fault = Fault::at(fault.number, record.number);
+                self.refuse(fault, record.bytes, time)
+            }
+            Sight::Unreadable(_) => Ok(()),
+            Sight::LeftOut => Ok(()),
+            Sight::Passed(_) => Ok(()),
         }
-        self.pass(alloc, record, time)
     }
 
-    /// Takes in the next record, of which this time was read.
-    ///
-    /// Refused by [`Fault::NO_MEMORY`] alone.
-    pub fn add(
+    // Takes in what a record holds, which stands so to the window.
+    fn pass(
         &mut self,
-        alloc: Global,
         record: &Record<'_>,
         time: Option<CaptureTime>,
+        place: WindowPlace,
+        sight: &Sight<'_>,
     ) -> Result<(), Fault>
+        requires stands { StandsSo self.old.params «record».now.number place }
+        requires sight { IsSightOf self.old.params self.old.without.now («record».now.number, «record».now.bytes.now) sight.now }
+        ensures standing { OnOk result (standing_in self.new
+            ≡ after_next self.old.params self.old.without.now (standing_in self.old) («record».now.number, «record».now.bytes.now)) }
+        ensures told { OnOk result (TellsNext self.old self.new («record».now.number, «record».now.bytes.now) time) }
+        ensures unjudged { OnOk result (KeepsNext self.old self.new («record».now.number, «record».now.bytes.now)) }
+        ensures kept { IsSameBut self.old self.new }
+        ensures err { IfErr result (λ f. (f ≡ no_memory) ⊎ (f ≡ read_failed)) }
+    {
+        match place {
+            WindowPlace::Inside => self.judge(record, time, sight),
+            WindowPlace::Before | WindowPlace::Behind => Ok(()),
+        }
+    }
+
+    // Takes in the next record, of which this time was read.
+    fn add(&mut self, record: &Record<'_>, time: Option<CaptureTime>) -> Result<(), Fault>
         ensures standing { OnOk result (standing_in self.new
             ≡ after_next self.old.params self.old.without.now (standing_in self.old) («record».now.number, «record».now.bytes.now)) }
         ensures noted { OnOk result ((records : List Captured) (r : Captured) → AreNotes self.old.params self.old.without.now records self.old.notes
@@ -236,15 +226,15 @@ impl<'a> Pass<'a> {
         ensures stays { StaysOnceRefused self.old self.new }
         ensures err { IfErr result (λ f. (f ≡ no_memory) ⊎ (f ≡ read_failed)) }
     {
-        let passage = self.pass_next(alloc, record, time)?;
+        let place = window_place(&self.params, record.number);
+        let sight = Sight::of(&self.params, self.without, record);
+        self.pass(record, time, place, &sight)?;
         self.notes
-            .note(alloc, &self.params, self.without, record, time, passage)
+            .note(self.alloc, record.number, time, place, &sight)
     }
 
-    /// Takes in the fault that ended the reading, with what was read of its record.
-    ///
-    /// Refused by [`Fault::NO_MEMORY`], and by [`Fault::READ_FAILED`] where that is the fault.
-    pub fn end(&mut self, alloc: Global, fault: Fault, frame: &[u8]) -> Result<(), Fault>
+    // Takes in the fault that ended the reading, with what was read of its record.
+    fn add_fault(&mut self, fault: Fault, frame: &[u8]) -> Result<(), Fault>
         ensures standing { OnOk result (standing_in self.new ≡ after_end self.old.params (standing_in self.old) fault) }
         ensures told { OnOk result ((fault ≢ no_memory) × (fault ≢ read_failed)) }
         ensures still { OnOk result (TellsStill self.old self.new fault.place) }
@@ -256,9 +246,34 @@ impl<'a> Pass<'a> {
             return Err(Fault::at(fault.number, 0));
         }
         if self.refusal.is_none() && fault.place <= self.params.last_record() {
-            self.refuse(alloc, fault, frame, None)
+            self.refuse(fault, frame, None)
         } else {
             Ok(())
         }
     }
+}
+
+impl<'a> Visitor for Pass<'a> {
+    ghost use Rattle.std.proofs.Common.{refl, ◌∙◌};
+    ghost use Rattle.seatmelon_reading.specs.Passing.{HasEnded, HasSeen};
+
+    ghost seen = { HasSeen };
+
+    ghost ended = { HasEnded };
+
+    ghost same = { λ old new. (new.params ≡ old.params) × (new.without.now ≡ old.without.now) × (new.notes.zero_is_no_time ≡ old.notes.zero_is_no_time) };
+
+    ghost refused = { λ fault. (fault ≡ no_memory) ⊎ (fault ≡ read_failed) };
+
+    fn visit(&mut self, found: &Record<'_>, time: Option<CaptureTime>) -> Result<(), Fault> {
+        self.add(found, time)
+    }
+
+    fn end(&mut self, fault: Fault, bytes: &[u8]) -> Result<(), Fault> {
+        self.add_fault(fault, bytes)
+    }
+
+    ghost same_always = { λ pass. (refl, refl, refl) };
+
+    ghost same_then = { λ a b c first next. (next.0 ∙ first.0, next.1 ∙ first.1, next.2 ∙ first.2) };
 }

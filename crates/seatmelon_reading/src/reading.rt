@@ -4,12 +4,10 @@ ghost use Rattle.std.specs.Io.KnownBytes.{IsAtEnd};
 ghost use Rattle.rasta_pcap.specs.Fault.{no_memory, read_failed};
 ghost use Rattle.rasta_pcap.specs.Noting.{PassesOn};
 ghost use Rattle.sha2.specs.Sha256.{sha256};
-ghost use Rattle.rasta_pcap.specs.Stream.{count_in, progress_of};
-ghost use Rattle.rasta_pcap.specs.declared.stream.Progress.TheVariants.{Reading as StillReading};
 ghost use Rattle.seatmelon_capture.specs.Header.{header_in};
 ghost use Rattle.seatmelon_pcapng.specs.Formats.{capture_of, format_of};
 ghost use Rattle.seatmelon_reading.specs.Opened.{OnFile, left_behind, noted_behind};
-ghost use Rattle.seatmelon_reading.specs.Passing.{IsPassed, IsThrough, ReaderOnWay, ReadsOnIf, StepsTo, Whole};
+ghost use Rattle.seatmelon_reading.specs.Passing.{IsPassed};
 ghost use Rattle.seatmelon_reading.specs.Reading.{IsReading, TellsFault};
 
 use crate::capture_refusal::CaptureRefusal;
@@ -18,18 +16,12 @@ use crate::pass::Pass;
 use crate::summed::Summed;
 use crate::tape::Tape;
 use rasta_check::Store;
-use rasta_pcap::stream::RecordReader;
-use rasta_pcap::{Buffered, Fault, Record, Source};
+use rasta_pcap::walk::walk;
+use rasta_pcap::{BUFFER, Buffered, Fault, MAX_RECORDS, Source};
 use rasta_pdu::Params;
 use seatmelon_capture::{FileHeader, Keeping};
 use seatmelon_pcapng::{Capture, Format};
 use std::alloc::Global;
-
-// How many bytes are read at once.
-const BUFFER: usize = 65_536;
-
-// The most records of a capture.
-const MOST_RECORDS: u32 = 4_000_000_000;
 
 // What is told of a file as a whole: its SHA-256, its header, and its format.
 #[derive(Clone, Copy)]
@@ -59,65 +51,13 @@ pub struct Reading {
     pub format: Format,
 }
 
-// Passes the next record of a capture; false where there is none, and where none can be read.
-fn pass_record<S: Source>(
-    alloc: Global,
-    records: &mut RecordReader,
-    source: &mut S,
-    pass: &mut Pass<'_>,
-) -> Result<bool, Fault>
-    requires { progress_of records.old ≡ StillReading }
-    ensures passed { PassesOn S.remaining S.notes source.old source.new }
-    ensures step { (w : Whole) → ReaderOnWay w records.old (S.remaining source.old) pass.old
-        → IfOk result (λ more. StepsTo more w records.new (S.remaining source.new) pass.new) }
-    ensures on { IfOk result (λ more. ReadsOnIf more records.old records.new) }
-    ensures err { IfErr result (λ f. (f ≡ no_memory) ⊎ (f ≡ read_failed)) }
-{
-    match records.advance(source) {
-        Ok(Some(number)) => {
-            let bytes = records.buffer();
-            pass.add(alloc, &Record { number, bytes }, records.time())?;
-            Ok(true)
-        }
-        Ok(None) => Ok(false),
-        Err(fault) => {
-            pass.end(alloc, fault, records.buffer())?;
-            Ok(false)
-        }
-    }
-}
-
-// Passes the records of a capture, up to its end or to where no record can be read.
-fn pass_records<S: Source>(
-    alloc: Global,
-    mut records: RecordReader,
-    source: &mut S,
-    pass: &mut Pass<'_>,
-) -> Result<(), Fault>
-    requires reading { progress_of records ≡ StillReading }
-    requires start { count_in records ≡ 0 }
-    ensures passed { PassesOn S.remaining S.notes source.old source.new }
-    ensures read { (w : Whole) → ReaderOnWay w records (S.remaining source.old) pass.old → OnOk result (IsThrough w pass.new) }
-    ensures err { IfErr result (λ f. (f ≡ no_memory) ⊎ (f ≡ read_failed)) }
-{
-    for _ in 0..MOST_RECORDS {
-        if !pass_record(alloc, &mut records, source, pass)? {
-            break;
-        }
-    }
-    Ok(())
-}
-
 // Passes a capture, up to its end or to where no record can be read.
 fn pass_capture<S: Source>(alloc: Global, source: &mut S, pass: &mut Pass<'_>) -> Result<(), Fault>
     ensures passed { PassesOn S.remaining S.notes source.old source.new }
     ensures read { IfSome (S.remaining source.old) (λ file. OnOk result (IsPassed file pass.old pass.new)) }
     ensures err { IfErr result (λ f. (f ≡ no_memory) ⊎ (f ≡ read_failed)) }
 {
-    match RecordReader::open(alloc, source) {
-        Ok(records) => pass_records(alloc, records, source, pass),
-        Err(fault) => pass.end(alloc, fault, &[]),
-    }
+    walk(alloc, source, MAX_RECORDS, pass)
 }
 
 /// Reads to the end of input. Refused by [`Fault::READ_FAILED`] alone.

@@ -1,13 +1,9 @@
 //! The packets of the connection with their datagrams, which are kept on demand, or behind what crossed.
-ghost use Rattle.std.specs.Prelude.{◌≡◌, ◌∷◌, ◌++◌, [], true, OnOk, IfErr};
-ghost use Rattle.rasta_pcap.specs.Fault.{no_memory};
-ghost use Rattle.rasta_udp.specs.Frame.{packet_in, packet_of};
-ghost use Rattle.rasta_check.specs.Capture.Reading.{packet_found};
-ghost use Rattle.seatmelon_reading.specs.Tapes.{found_in, numbered_with, taped_in};
+ghost use Rattle.std.specs.Prelude.{◌≡◌, ◌∷◌, ◌++◌, [], true, OnOk};
+ghost use Rattle.rasta_udp.specs.Frame.{packet_of};
+ghost use Rattle.seatmelon_reading.specs.Tapes.{numbered_with, taped_in};
 
-use crate::frames::packet;
-use rasta_pcap::{Fault, Record, Side};
-use rasta_pdu::Params;
+use rasta_pcap::Side;
 use rasta_udp::Datagram;
 use std::alloc::{AllocError, Global};
 
@@ -44,16 +40,19 @@ impl Tape {
         }
     }
 
-    /// Takes in the packet of the record of this number.
-    pub(crate) fn push(
+    /// Takes in the packet of the record of this number, if packets are kept.
+    pub(crate) fn add(
         &mut self,
         alloc: Global,
         number: u32,
         found: &Datagram<'_>,
     ) -> Result<(), AllocError>
         ensures kept { self.new.is_kept ≡ self.old.is_kept }
-        ensures added { OnOk result (taped_in self.new ≡ taped_in self.old ++ numbered_with number (packet_of found.now) ∷ []) }
+        ensures added { OnOk result (self.new.is_kept ≡ true → taped_in self.new ≡ taped_in self.old ++ numbered_with number (packet_of found.now) ∷ []) }
     {
+        if !self.is_kept {
+            return Ok(());
+        }
         let mut datagram = Vec::new(alloc);
         datagram.extend_from_slice(found.payload)?;
         let taped = Taped {
@@ -65,24 +64,6 @@ impl Tape {
         match self.packets.push(taped) {
             Ok(()) => Ok(()),
             Err(error) => Err(AllocError::from(error)),
-        }
-    }
-
-    /// Takes in the packet of a record, if packets are kept.
-    ///
-    /// Refused by [`Fault::NO_MEMORY`] alone.
-    pub fn add(&mut self, alloc: Global, params: &Params, record: &Record<'_>) -> Result<(), Fault>
-        ensures kept { self.new.is_kept ≡ self.old.is_kept }
-        ensures added { OnOk result (self.new.is_kept ≡ true → taped_in self.new
-            ≡ taped_in self.old ++ found_in «record».now.number (packet_found (packet_in params.now.channels «record».now.bytes.now))) }
-        ensures err { IfErr result (λ f. f ≡ no_memory) }
-    {
-        if !self.is_kept {
-            return Ok(());
-        }
-        match packet(params, record) {
-            Some(found) => Ok(self.push(alloc, record.number, &found)?),
-            None => Ok(()),
         }
     }
 }

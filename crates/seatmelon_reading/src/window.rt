@@ -2,10 +2,8 @@
 ghost use Rattle.std.specs.Prelude.{◌↔◌, IsTrue, IsSome, IfSome};
 ghost use Rattle.seatmelon_reading.specs.Window.{IsBounded, IsLastRead, IsToldOf, StandsSo};
 
+use rasta_pcap::MAX_RECORDS;
 use rasta_pdu::Params;
-
-// The last record of a window where none is recorded.
-const MOST_RECORDS: u32 = 4_000_000_000;
 
 /// The recorded window, as it is told of a capture.
 #[derive(Clone, Copy)]
@@ -19,22 +17,22 @@ pub struct Window {
 
 /// Where a record stands.
 #[derive(Clone, Copy, PartialEq, Eq)]
-pub enum Standing {
+pub enum WindowPlace {
     Before,
     Inside,
     Behind,
 }
 
 /// Where a record stands to the window.
-pub fn standing_of(params: &Params, number: u32) -> Standing
+pub fn window_place(params: &Params, number: u32) -> WindowPlace
     ensures { StandsSo params.now number result }
 {
     if number < params.first_record() {
-        Standing::Before
+        WindowPlace::Before
     } else if number <= params.last_record() {
-        Standing::Inside
+        WindowPlace::Inside
     } else {
-        Standing::Behind
+        WindowPlace::Behind
     }
 }
 
@@ -53,7 +51,7 @@ fn last_read(params: &Params, records: u32) -> Option<u32>
 fn is_bounded(params: &Params) -> bool
     ensures { IsTrue result ↔ IsBounded params.now }
 {
-    params.first_record() > 1 || params.last_record() < MOST_RECORDS
+    params.first_record() > 1 || params.last_record() < MAX_RECORDS
 }
 
 /// The window, in a capture of so many records; none where no window is recorded.

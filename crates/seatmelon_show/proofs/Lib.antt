@@ -1,3 +1,3 @@
 pub mod Counted
-pub mod OnWay
+pub mod Listed
 pub mod Through

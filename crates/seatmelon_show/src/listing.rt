@@ -1,13 +1,10 @@
 //! Listing the packets of a capture.
 ghost use Rattle.std.specs.Prelude.{◌≡◌, ◌≢◌, ◌<◌, ◌≤◌, ◌⊎◌, ◌↔◌, IsTrue, ℕ, Option, option_map, List, IfErr, IfOk, OnOk};
-ghost use Rattle.rasta_pcap.specs.Capture.{Reading, max_records};
 ghost use Rattle.rasta_pcap.specs.Fault.{no_memory, read_failed, write_failed};
-ghost use Rattle.rasta_pcap.specs.Stream.{RefusesHeader, count_in, progress_of};
-ghost use Rattle.rasta_pcap.specs.declared.stream.Progress.TheVariants.{Reading as StillReading};
+ghost use Rattle.rasta_pcap.specs.Stream.{RefusesHeader};
 ghost use Rattle.seatmelon_pcapng.specs.Formats.{capture_of};
 ghost use Rattle.seatmelon_show.specs.Counted.{AreSmall, IsListingOf, counts_after, counts_next};
 ghost use Rattle.seatmelon_show.specs.Sighted.{seen_of, sighted_in};
-ghost use Rattle.seatmelon_show.specs.OnWay.{IsThrough, ReaderOnWay, ReadsOnIf, StepsTo};
 
 use crate::choice::Choice;
 use crate::counts::{Counts, NO_COUNTS};
@@ -15,31 +12,18 @@ use crate::decoding::decoding_of;
 use crate::line::{write_counts, write_end, write_head, write_line};
 use crate::sight::{Sight, sight_in};
 use rasta_pcap::stream::RecordReader;
-use rasta_pcap::{Buffered, CaptureTime, Fault, Record, Sink, Source};
+use rasta_pcap::walk::{Visitor, walk_records};
+use rasta_pcap::{BUFFER, Buffered, CaptureTime, Fault, Record, Sink, Source};
 use rasta_pdu::Params;
 use seatmelon_capture::write_link_types;
 use seatmelon_pcapng::{Capture, Format};
 use std::alloc::Global;
-
-// How many bytes are read at once.
-const BUFFER: usize = 65_536;
 
 /// What a listing comes to: how many packets there are, and the fault that ends the capture, if one does.
 #[derive(Clone, Copy, Debug, PartialEq, Eq)]
 pub struct Listing {
     pub counts: Counts,
     pub fault: Option<Fault>,
-}
-
-// A fault of the capture; a lack of memory and a failed read are errors.
-fn told(fault: Fault) -> Result<Fault, Fault>
-    ensures ok { IfOk result (λ f. (f ≡ fault) × (fault ≢ no_memory) × (fault ≢ read_failed)) }
-    ensures err { IfErr result (λ f. (f ≡ no_memory) ⊎ (f ≡ read_failed)) }
-{
-    if fault.is_failure() {
-        return Err(Fault::at(fault.number, 0));
-    }
-    Ok(fault)
 }
 
 // Lists a packet, which was captured at this time, if it is one of those that are listed.
@@ -83,66 +67,49 @@ fn list_record<W: Sink>(
     }
 }
 
-// Lists what the next record holds; false where there is none, and where none can be read.
-fn list_next<R: Source, W: Sink>(
-    params: &Params,
-    choice: &Choice<'_>,
-    records: &mut RecordReader,
-    reader: &mut R,
-    listing: &mut Listing,
-    writer: &mut W,
-) -> Result<bool, Fault>
-    requires { progress_of records.old ≡ StillReading }
-    ensures step { (whole : Reading) → count_in records.old < params.now.last_record → params.now.last_record ≤ max_records
-        → ReaderOnWay params.now choice.now whole records.old (R.remaining reader.old) listing.old
-        → IfOk result (λ more. StepsTo more params.now choice.now whole records.new (R.remaining reader.new) listing.new) }
-    ensures on { IfOk result (λ more. ReadsOnIf more records.old records.new) }
-    ensures err { IfErr result (λ f. (f ≡ no_memory) ⊎ ((f ≡ read_failed) ⊎ (f ≡ write_failed))) }
-{
-    match records.advance(reader) {
-        Ok(Some(number)) => {
-            let bytes = records.buffer();
-            let record = Record { number, bytes };
-            list_record(
-                params,
-                choice,
-                &record,
-                records.time(),
-                &mut listing.counts,
-                writer,
-            )?;
-            Ok(true)
-        }
-        Ok(None) => Ok(false),
-        Err(fault) => {
-            listing.fault = Some(told(fault)?);
-            Ok(false)
-        }
-    }
+// A listing on its way: what a record holds is listed before the next one is read.
+#[derive(Drop)]
+struct Lister<'a, 'c, W> {
+    params: &'a Params,
+    choice: &'a Choice<'c>,
+    listing: Listing,
+    writer: W,
 }
 
-// Lists what the records hold, up to the last one of the window or to where none can be read.
-fn list_records<R: Source, W: Sink>(
-    params: &Params,
-    choice: &Choice<'_>,
-    mut records: RecordReader,
-    reader: &mut R,
-    listing: &mut Listing,
-    writer: &mut W,
-) -> Result<(), Fault>
-    requires reading { progress_of records ≡ StillReading }
-    requires start { count_in records ≡ 0 }
-    ensures read { (whole : Reading) → ReaderOnWay params.now choice.now whole records (R.remaining reader.old) listing.old
-        → OnOk result (IsThrough params.now choice.now whole listing.new) }
-    ensures err { IfErr result (λ f. (f ≡ no_memory) ⊎ ((f ≡ read_failed) ⊎ (f ≡ write_failed))) }
-{
-    let most = params.last_record();
-    for _ in 0..most {
-        if !list_next(params, choice, &mut records, reader, listing, writer)? {
-            break;
-        }
+impl<'a, 'c, W: Sink> Visitor for Lister<'a, 'c, W> {
+    ghost use Rattle.std.specs.Prelude.{map, refl};
+    ghost use Rattle.std.proofs.Common.{None, Some, ◌∙◌};
+    ghost use Rattle.rasta_pcap.specs.Captured.{numbered};
+    ghost use Rattle.seatmelon_show.specs.Counted.{AreCounts};
+
+    ghost seen = { λ l done. AreCounts l.params.now l.choice.now (map numbered done) l.listing.counts × (l.listing.fault ≡ None) };
+
+    ghost ended = { λ l done fault. AreCounts l.params.now l.choice.now (map numbered done) l.listing.counts × (l.listing.fault ≡ Some fault) };
+
+    ghost same = { λ old new. (new.params.now ≡ old.params.now) × (new.choice.now ≡ old.choice.now) };
+
+    ghost refused = { λ fault. fault ≡ write_failed };
+
+    fn visit(&mut self, found: &Record<'_>, time: Option<CaptureTime>) -> Result<(), Fault> {
+        let counts = &mut self.listing.counts;
+        list_record(
+            self.params,
+            self.choice,
+            found,
+            time,
+            counts,
+            &mut self.writer,
+        )
     }
-    Ok(())
+
+    fn end(&mut self, fault: Fault, _bytes: &[u8]) -> Result<(), Fault> {
+        self.listing.fault = Some(fault);
+        Ok(())
+    }
+
+    ghost same_always = { λ l. (refl, refl) };
+
+    ghost same_then = { λ a b c first next. (next.0 ∙ first.0, next.1 ∙ first.1) };
 }
 
 // Writes the end of a listing of a file in this format.
@@ -170,12 +137,18 @@ fn list_capture<R: Source, W: Sink>(
 {
     let records = RecordReader::open(alloc, reader)?;
     write_head(writer)?;
-    let mut listing = Listing {
+    let listing = Listing {
         counts: NO_COUNTS,
         fault: None,
     };
-    list_records(params, choice, records, reader, &mut listing, writer)?;
-    Ok(listing)
+    let mut lister = Lister {
+        params,
+        choice,
+        listing,
+        writer,
+    };
+    walk_records(records, reader, params.last_record(), &mut lister)?;
+    Ok(lister.listing)
 }
 
 /// Lists the packets of the recorded channels in the window, those that are chosen, each before the next record is read,

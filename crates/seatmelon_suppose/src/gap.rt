@@ -1,10 +1,9 @@
 //! Gaps in the numbers of an end.
 ghost use Rattle.std.specs.Prelude.{◌≡◌};
-ghost use Rattle.rasta_check.specs.Capture.Crossing.{sent_by};
 
 use crate::mending::Mended;
 use crate::supposed::Fields;
-use rasta_check::{SentList, SpanList, Store};
+use rasta_check::SentList;
 use rasta_pcap::{Fault, Side};
 use rasta_pdu::{Params, Pdu, decode};
 use seatmelon_reading::Taped;
@@ -28,16 +27,6 @@ pub struct Gap {
     pub crossed_at: u32,
 }
 
-/// What an end sent.
-pub fn list_of(store: &Store, side: Side) -> SpanList<'_>
-    ensures { result ≡ sent_by store.now side }
-{
-    match side {
-        Side::Client => store.client(),
-        Side::Server => store.server(),
-    }
-}
-
 /// What a PDU says.
 pub fn fields_of(pdu: &Pdu<'_>) -> Fields {
     Fields {
@@ -57,7 +46,7 @@ pub fn gap_at(params: &Params, packets: &[Taped], mended: &Mended, most: u32) ->
         Some(side) if stop.fault.number == Fault::NUMBER_GAP => side,
         _ => return None,
     };
-    let list = list_of(&mended.store, sender);
+    let list = mended.store.list_of(sender);
     let (crossed_at, last) = list.get(list.len().checked_sub(1)?)?;
     let taped = packets.get(stop.place)?;
     let behind = match decode(params, sender, &taped.datagram) {

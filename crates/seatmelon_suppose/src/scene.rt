@@ -1,6 +1,6 @@
 //! What crosses around a gap.
 use crate::filling::origin_at;
-use crate::gap::{Gap, fields_of, list_of};
+use crate::gap::{Gap, fields_of};
 use crate::mending::Mended;
 use crate::supposed::Fields;
 use rasta_check::{SentList, SpanList};
@@ -308,8 +308,8 @@ pub fn scene_of(
     unexplained: usize,
 ) -> Result<Scene, AllocError> {
     let Mended { store, origins, .. } = mended;
-    let peer = list_of(store, gap.sender.other());
-    let own = list_of(store, gap.sender);
+    let peer = store.list_of(gap.sender.other());
+    let own = store.list_of(gap.sender);
     let peers = peers_between(alloc, gap, origins, &peer)?;
     let ahead = look_ahead(alloc, params, packets, gap)?;
     let shown = shown_places(alloc, gap, &peers, unexplained)?;

@@ -6,8 +6,7 @@ ghost use Rattle.rasta_check.specs.Capture.Lists.{copy_of};
 ghost use Rattle.seatmelon_suppose.specs.Sent.{messages_from, sent_messages};
 
 use crate::filling::{Judged, origin_at};
-use crate::gap::list_of;
-use rasta_check::{SentList, SpanList};
+use rasta_check::SentList;
 use rasta_pcap::Side;
 use rasta_pdu::{Kind, Pdu};
 use std::alloc::{AllocError, Global};
@@ -60,7 +59,7 @@ fn add_copy(
 pub fn sent_by(alloc: Global, judged: &Judged, sender: Side) -> Result<Vec<SentMessage>, AllocError>
     ensures { IfOk result (λ sent. sent.items ≡ sent_messages judged.now.origins.items (sent_by judged.now.store sender)) }
 {
-    let list = list_of(&judged.store, sender);
+    let list = judged.store.list_of(sender);
     let mut sent = Vec::new(alloc);
     for position in 0..list.len() {
         if let Some((place, pdu)) = list.get(position) {

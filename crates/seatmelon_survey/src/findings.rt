@@ -7,14 +7,12 @@ ghost use Rattle.seatmelon_survey.specs.Belonging.{opening_in};
 
 use crate::cut_report::{write_cut_of, write_cut_pairs, write_cuts};
 use crate::cuts::Cuts;
-use crate::fault_json::write_fault_json;
-use crate::fault_words::write_fault;
 use crate::json_report::write_found;
 use crate::places::{Ends, Opening, Places};
 use crate::report::{write_connection, write_summary};
 use rasta_pcap::{CaptureTime, Fault, Record, Sink};
 use rasta_pdu::Kind;
-use seatmelon_capture::FileHeader;
+use seatmelon_capture::{FileHeader, write_fault, write_fault_json};
 use seatmelon_connections::{Arrival, Connection};
 use seatmelon_packets::{Packet, Recognizer, Sight, Way, sight_in};
 use seatmelon_pcapng::Format;

@@ -3,8 +3,6 @@
 
 mod cut_report;
 mod cuts;
-mod fault_json;
-mod fault_words;
 mod findings;
 mod json_report;
 mod places;
@@ -12,8 +10,6 @@ mod reading;
 mod report;
 
 pub use cuts::{CutCount, Cuts, Direction, MOST_DIRECTIONS};
-pub use fault_json::write_fault_json;
-pub use fault_words::{FaultWords, FileRefusal, words_of_fault, write_fault};
 pub use findings::{Behind, MOST_CONNECTIONS, Survey};
 pub use reading::survey;
 pub use report::write_connection;

@@ -9,8 +9,8 @@ use rasta_pcap::{CaptureTime, Fault, Side, Sink};
 use seatmelon_audit::{
     Answer, Audit, Before, Connection, Conveyed, Explained, Refusal, Share, ShownOf, Subject,
 };
+use seatmelon_capture::write_fault_json;
 use seatmelon_pcapng::Format;
-use seatmelon_survey::write_fault_json;
 use seatmelon_text::json::{write_long, write_string};
 use seatmelon_text::{tell, write_words};
 

@@ -2,13 +2,10 @@
 ghost use Rattle.std.specs.Prelude.{◌≡◌, IfErr};
 ghost use Rattle.rasta_pcap.specs.Fault.{write_failed};
 
-use rasta_pcap::{Fault, Sink};
+use rasta_pcap::{Fault, MAX_RECORDS, Sink};
 use seatmelon_audit::{Course, Disconnection, Facts, Stamp};
 use seatmelon_text::json::write_long;
 use seatmelon_text::{tell, write_words};
-
-// The most records of a capture: the last one of a window where none is recorded.
-const MOST_RECORDS: u32 = 4_000_000_000;
 
 /// How JSON spells whether something is so.
 pub fn truth(is_so: bool) -> &'static str {
@@ -29,7 +26,7 @@ fn write_number_if<W: Sink>(writer: &mut W, number: Option<u32>) -> Result<(), F
 fn write_window<W: Sink>(writer: &mut W, facts: &Facts, records: u32) -> Result<(), Fault>
     ensures err { IfErr result (λ f. f ≡ write_failed) }
 {
-    if facts.first_record <= 1 && facts.last_record >= MOST_RECORDS {
+    if facts.first_record <= 1 && facts.last_record >= MAX_RECORDS {
         return write_words(writer, ",\"window\":null");
     }
     let last = if records < facts.first_record {

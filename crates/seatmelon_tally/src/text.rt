@@ -7,9 +7,8 @@ use rasta_pcap::{CaptureTime, Fault, Side, Sink};
 use seatmelon_audit::{
     Answer, Audit, Before, Conveyed, Explained, Refusal, Share, ShownOf, Subject,
 };
-use seatmelon_capture::write_link_types;
+use seatmelon_capture::{write_fault, write_link_types};
 use seatmelon_pcapng::Format;
-use seatmelon_survey::write_fault;
 use seatmelon_text::{tell, write_words};
 
 // What so many are called.

@@ -28,7 +28,7 @@ fn unexplained_record(account: &Account<'_>, refusal: &Refusal<'_>) -> Option<u3
         Subject::Unexplained {
             packet: Some(packet),
             ..
-        } => Some(account.packets.get(packet.place as usize)?.record),
+        } => Some(account.packets().get(packet.place as usize)?.record),
         _ => None,
     }
 }

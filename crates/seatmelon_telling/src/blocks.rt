@@ -8,7 +8,7 @@ use seatmelon_text::{Part, parts};
 /// The block that a fault of the capture speaks of, if it does.
 pub fn block_refused(account: &Account<'_>, fault: Fault) -> Option<Refusal> {
     match fault.number {
-        Fault::CUT_RECORD => account.format.refusal(),
+        Fault::CUT_RECORD => account.reading.format.refusal(),
         _ => None,
     }
 }

@@ -82,7 +82,7 @@ fn cause_on(channel: u64, packets: u64, fullest: u64) -> Option<Cause> {
 pub fn refused_place(account: &Account<'_>, refusal: &Refusal<'_>) -> Option<u32> {
     match (refusal.fault.number, &refusal.subject) {
         (Fault::NUMBER_GAP, Subject::Record { record, .. }) => {
-            let mut packets = account.packets.iter();
+            let mut packets = account.packets().iter();
             u32::try_from(packets.position(|packet| packet.record == *record)?).ok()
         }
         (
@@ -111,11 +111,11 @@ fn count_before(packets: &[Sighting], place: u32) -> Option<usize> {
 /// Whether the refusal speaks of one of the first packets of an end in a window that begins in the middle of the
 /// connection.
 pub fn is_in_middle(account: &Account<'_>, refusal: &Refusal<'_>) -> bool {
-    if account.params.quiet().is_some() || account.opens != Some(false) {
+    if account.inputs.params.quiet().is_some() || account.opens != Some(false) {
         return false;
     }
     match refused_place(account, refusal) {
-        Some(place) => count_before(account.packets, place).is_some_and(|count| count
+        Some(place) => count_before(account.packets(), place).is_some_and(|count| count
             < FIRST_PACKETS),
         None => false,
     }
@@ -129,7 +129,7 @@ fn middle_cause(account: &Account<'_>, refusal: &Refusal<'_>) -> Option<Cause> {
     let gap = account
         .course
         .last_gap
-        .and_then(|place| account.packets.get(place as usize));
+        .and_then(|place| account.packets().get(place as usize));
     match gap {
         Some(packet) => Some(Cause::MiddleUpTo {
             record: packet.record,
@@ -173,7 +173,7 @@ fn late_record(refusal: &Refusal<'_>) -> Option<u32> {
 
 // The first record whose time falls, if it is no later than the refused one, or than that of the number that was due.
 fn falling_cause(account: &Account<'_>, refusal: &Refusal<'_>, refused: u32) -> Option<Cause> {
-    let record = account.times.falling.first?;
+    let record = account.reading.notes.times.falling.first?;
     if record <= late_record(refusal).unwrap_or(refused) {
         Some(Cause::Falling { record })
     } else {
@@ -302,7 +302,7 @@ pub fn write_causes<W: Sink>(
     ensures err { IfErr result (λ f. f ≡ write_failed) }
 {
     let place = refused_place(account, refusal);
-    let Some(refused) = place.and_then(|place| account.packets.get(place as usize)) else {
+    let Some(refused) = place.and_then(|place| account.packets().get(place as usize)) else {
         return Ok(());
     };
     let is_any = write_channels(writer, account, around)?;

@@ -70,18 +70,18 @@ fn write_disconnection<W: Sink>(
 pub fn write_ending<W: Sink>(writer: &mut W, account: &Account<'_>) -> Result<(), Fault>
     ensures err { IfErr result (λ f. f ≡ write_failed) }
 {
-    if account.packets.is_empty() {
+    let (packets, course) = (account.packets(), &account.course);
+    if packets.is_empty() {
         return Ok(());
     }
-    let course = &account.course;
     match &course.ending {
-        Some(ending) => write_disconnection(writer, account.packets, course, ending)?,
+        Some(ending) => write_disconnection(writer, packets, course, ending)?,
         None => write_open(writer, account)?,
     }
     match course.reopening {
         Some(place) => {
             write_words(writer, "    another connection is opened: ")?;
-            write_place(writer, account.packets, place)
+            write_place(writer, packets, place)
         }
         None => Ok(()),
     }
@@ -132,6 +132,7 @@ fn write_disconnection_json<W: Sink>(
 pub fn write_course<W: Sink>(writer: &mut W, account: &Account<'_>) -> Result<(), Fault>
     ensures err { IfErr result (λ f. f ≡ write_failed) }
 {
+    let (packets, course) = (account.packets(), &account.course);
     let opening = account.opens.unwrap_or(false);
     tell!(
         writer,
@@ -139,7 +140,7 @@ pub fn write_course<W: Sink>(writer: &mut W, account: &Account<'_>) -> Result<()
         truth(opening),
         ",\"disconnection\":"
     )?;
-    write_disconnection_json(writer, account.packets, &account.course)?;
+    write_disconnection_json(writer, packets, course)?;
     write_words(writer, ",\"another_opening\":")?;
-    write_place_if(writer, account.packets, account.course.reopening)
+    write_place_if(writer, packets, course.reopening)
 }

@@ -151,7 +151,7 @@ fn write_sentence<W: Sink>(writer: &mut W, account: &Account<'_>, packets: u32) 
     ensures err { IfErr result (λ f. f ≡ write_failed) }
 {
     write_words(writer, "explained")?;
-    write_without(writer, account.without)?;
+    write_without(writer, account.inputs.without)?;
     tell!(
         writer,
         ": two ends that keep the rules can have sent these ",

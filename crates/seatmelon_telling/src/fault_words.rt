@@ -1,5 +1,6 @@
 //! The words of each fault: what it means, what may be its cause, and what to look at next.
 use rasta_pcap::Fault;
+use seatmelon_capture::words_of_fault;
 
 /// What a fault means, what may be its cause, and what to look at next.
 #[derive(Clone, Copy)]
@@ -73,14 +74,11 @@ pub fn words_of(number: u8) -> FaultWords {
 
 fn words_of_capture(number: u8) -> FaultWords {
     match number {
-        Fault::NOT_PCAP => row("this is not a classic libpcap file", OTHER_FORMAT, CONVERT),
-        Fault::VERSION => row(
-            "this is not version 2.4 of the libpcap format",
-            OTHER_FORMAT,
-            CONVERT,
-        ),
+        Fault::NOT_PCAP | Fault::VERSION => {
+            row(words_of_fault(number).before, OTHER_FORMAT, CONVERT)
+        }
         Fault::CUT_HEADER => row(
-            "the file ends inside its header",
+            words_of_fault(number).before,
             NOT_WHOLE,
             "where the file comes from: it has to be copied again",
         ),

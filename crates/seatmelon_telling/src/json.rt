@@ -57,8 +57,8 @@ fn write_format<W: Sink>(writer: &mut W, format: Format) -> Result<(), Fault>
 fn write_capture<W: Sink>(writer: &mut W, account: &Account<'_>) -> Result<(), Fault>
     ensures err { IfErr result (λ f. f ≡ write_failed) }
 {
-    begin_file(writer, &account.capture)?;
-    write_format(writer, account.format)?;
+    begin_file(writer, &account.capture())?;
+    write_format(writer, account.reading.format)?;
     write_words(writer, "}")
 }
 
@@ -116,6 +116,7 @@ fn write_window<W: Sink>(
     let Some(window) = window else {
         return write_words(writer, ",\"window\":null");
     };
+    let notes = &account.reading.notes;
     tell!(
         writer,
         ",\"window\":{\"first_record\":",
@@ -123,8 +124,8 @@ fn write_window<W: Sink>(
         ",\"last_record\":"
     )?;
     write_number_if(writer, window.last_record)?;
-    write_count(writer, "packets_before", account.before)?;
-    write_count(writer, "packets_behind", account.behind)?;
+    write_count(writer, "packets_before", notes.before)?;
+    write_count(writer, "packets_behind", notes.behind)?;
     write_words(writer, "}")
 }
 
@@ -160,15 +161,16 @@ fn write_channels<W: Sink>(writer: &mut W, channels: &[ChannelCount]) -> Result<
 fn write_counts<W: Sink>(writer: &mut W, account: &Account<'_>) -> Result<(), Fault>
     ensures err { IfErr result (λ f. f ≡ write_failed) }
 {
-    tell!(writer, ",\"records_read\":", account.records)?;
+    let notes = &account.reading.notes;
+    tell!(writer, ",\"records_read\":", notes.records)?;
     write_window(writer, account, account.window)?;
-    write_count(writer, "packets", account.packets.len() as u64)?;
+    write_count(writer, "packets", notes.packets.len() as u64)?;
     write_channels(writer, account.channels)?;
     write_course(writer, account)?;
-    write_count(writer, "records_passed_over", account.passed_over())?;
-    write_passed_over(writer, account.passed)?;
+    write_count(writer, "records_passed_over", notes.passed.total())?;
+    write_passed_over(writer, notes.passed)?;
     write_times(writer, account)?;
-    write_params(writer, account.params)?;
+    write_params(writer, account.inputs.params)?;
     write_offers(writer, &account.offers)
 }
 
@@ -188,7 +190,7 @@ fn write_verdict<W: Sink>(writer: &mut W, account: &Account<'_>) -> Result<(), F
         }
         Verdict::Explained(explained) => {
             write_words(writer, ",\"verdict\":\"explained\"")?;
-            write_explained(writer, account.packets, explained)
+            write_explained(writer, account.packets(), explained)
         }
     }
 }
@@ -199,7 +201,7 @@ pub fn write_json<W: Sink>(writer: &mut W, account: &Account<'_>) -> Result<(), 
 {
     tell!(writer, "{\"program\":\"", PROGRAM, "\"")?;
     write_files(writer, account)?;
-    write_without(writer, account.without)?;
+    write_without(writer, account.inputs.without)?;
     write_counts(writer, account)?;
     write_verdict(writer, account)?;
     write_words(writer, "}\n")

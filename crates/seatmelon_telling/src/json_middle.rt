@@ -118,9 +118,10 @@ pub fn write_middle<W: Sink>(writer: &mut W, account: &Account<'_>) -> Result<()
     let Some(middle) = &account.middle else {
         return write_words(writer, ",\"from_the_middle\":null");
     };
+    let packets = account.packets();
     tell!(writer, ",\"from_the_middle\":{\"packets\":", middle.packets)?;
-    write_bound(writer, account.packets, middle)?;
+    write_bound(writer, packets, middle)?;
     write_premises(writer, middle)?;
-    write_lists(writer, account.packets, middle)?;
+    write_lists(writer, packets, middle)?;
     write_words(writer, "}")
 }

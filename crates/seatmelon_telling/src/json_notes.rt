@@ -91,10 +91,11 @@ fn write_untimed<W: Sink>(writer: &mut W, count: u64) -> Result<(), Fault>
 pub fn write_times<W: Sink>(writer: &mut W, account: &Account<'_>) -> Result<(), Fault>
     ensures err { IfErr result (λ f. f ≡ write_failed) }
 {
+    let times = &account.reading.notes.times;
     let [client, server] = silences_told(account);
     write_words(writer, ",\"times\":{")?;
-    write_noticed(writer, "falling", account.times.falling)?;
-    write_noticed(writer, "overlong_fractions", account.times.overlong)?;
+    write_noticed(writer, "falling", times.falling)?;
+    write_noticed(writer, "overlong_fractions", times.overlong)?;
     write_untimed(writer, account.untimed)?;
     write_words(writer, "\"longest_silence\":{\"client\":")?;
     write_silence(writer, client)?;

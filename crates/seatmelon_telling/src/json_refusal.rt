@@ -23,7 +23,7 @@ fn write_meaning<W: Sink>(writer: &mut W, account: &Account<'_>, fault: Fault) -
     ensures err { IfErr result (λ f. f ≡ write_failed) }
 {
     let Some(block) = block_refused(account, fault) else {
-        return write_sentence(writer, meaning_in(fault, account.header));
+        return write_sentence(writer, meaning_in(fault, account.reading.header));
     };
     write_words(writer, "\"")?;
     write_parts(writer, &meaning_of_block(block))?;
@@ -40,7 +40,7 @@ fn write_fault<W: Sink>(
 ) -> Result<(), Fault>
     ensures err { IfErr result (λ f. f ≡ write_failed) }
 {
-    let (fault, header) = (refusal.fault, account.header);
+    let (fault, header) = (refusal.fault, account.reading.header);
     let hint = hint_of(account, refusal);
     tell!(
         writer,
@@ -237,7 +237,7 @@ pub fn write_refusal<W: Sink>(
     ensures err { IfErr result (λ f. f ≡ write_failed) }
 {
     let subject = &refusal.subject;
-    let packets = account.packets;
+    let packets = account.packets();
     write_fault(writer, account, refusal)?;
     write_record_if(writer, packets, subject)?;
     write_line_if(writer, subject)?;

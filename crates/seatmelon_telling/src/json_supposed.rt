@@ -181,11 +181,12 @@ pub fn write_supposed<W: Sink>(writer: &mut W, account: &Account<'_>) -> Result<
     let Some(hypothesis) = &account.hypothesis else {
         return Ok(());
     };
+    let packets = account.packets();
     let supposition = &hypothesis.supposition;
-    write_fillings(writer, account.packets, &supposition.fillings)?;
-    write_gaps(writer, account.packets, &supposition.gaps)?;
+    write_fillings(writer, packets, &supposition.fillings)?;
+    write_gaps(writer, packets, &supposition.gaps)?;
     if !supposition.fillings.is_empty() {
-        write_messages(writer, account.packets, hypothesis)?;
+        write_messages(writer, packets, hypothesis)?;
     }
     write_words(writer, "}")
 }

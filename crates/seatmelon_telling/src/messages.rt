@@ -290,9 +290,10 @@ fn write_heading<W: Sink>(
 
 // What the lines of an account's messages rest on.
 fn scene_of<'a>(account: &Account<'a>, selection: Selection, is_whole: bool) -> Scene<'a> {
+    let packets = account.packets();
     Scene {
-        packets: account.packets,
-        first: account.packets.first().and_then(|first| first.time),
+        packets,
+        first: packets.first().and_then(|first| first.time),
         is_single: account.channels.len() == 1,
         selection,
         is_whole,

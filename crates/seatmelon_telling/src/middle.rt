@@ -133,7 +133,7 @@ pub fn write_middle<W: Sink>(writer: &mut W, account: &Account<'_>) -> Result<()
     write_left_out(writer, middle.server_left_out)?;
     write_again(writer, Side::Client, &middle.client_resent)?;
     write_again(writer, Side::Server, &middle.server_resent)?;
-    write_bound(writer, account.packets, middle)?;
+    write_bound(writer, account.packets(), middle)?;
     write_words(writer, SAYS)?;
     for words in middle_premises(middle) {
         write_premise(writer, words)?;

@@ -21,13 +21,8 @@ fn write_reason<W: Sink>(writer: &mut W, reason: &'static str, count: u64) -> Re
 pub fn write_passed_over<W: Sink>(writer: &mut W, account: &Account<'_>) -> Result<(), Fault>
     ensures err { IfErr result (λ f. f ≡ write_failed) }
 {
-    let passed = account.passed;
-    tell!(
-        writer,
-        "  records passed over: ",
-        account.passed_over(),
-        "\n"
-    )?;
+    let passed = account.reading.notes.passed;
+    tell!(writer, "  records passed over: ", passed.total(), "\n")?;
     write_reason(writer, "left out", passed.left_out)?;
     write_reason(writer, "not IPv4 or UDP", passed.not_udp)?;
     write_reason(writer, "other addresses or ports", passed.elsewhere)?;
@@ -163,12 +158,13 @@ pub fn silences_told(account: &Account<'_>) -> [Option<Longest>; 2] {
 
 // Whether something is noted of the times of capture.
 fn is_any_noted(account: &Account<'_>) -> bool {
+    let times = &account.reading.notes.times;
     let [client, server] = silences_told(account);
     client.is_some()
         || server.is_some()
         || account.untimed > 0
-        || account.times.falling.count > 0
-        || account.times.overlong.count > 0
+        || times.falling.count > 0
+        || times.overlong.count > 0
 }
 
 // Writes how many packets have no time, if some have none.
@@ -190,6 +186,7 @@ fn write_untimed<W: Sink>(writer: &mut W, count: u64) -> Result<(), Fault>
 pub fn write_times<W: Sink>(writer: &mut W, account: &Account<'_>) -> Result<(), Fault>
     ensures err { IfErr result (λ f. f ≡ write_failed) }
 {
+    let times = &account.reading.notes.times;
     let [client, server] = silences_told(account);
     if !is_any_noted(account) {
         return Ok(());
@@ -201,11 +198,11 @@ pub fn write_times<W: Sink>(writer: &mut W, account: &Account<'_>) -> Result<(),
     write_noticed(
         writer,
         "records captured before the one that stands before them",
-        account.times.falling,
+        times.falling,
     )?;
     write_noticed(
         writer,
         "records whose fraction of a second isn't below one",
-        account.times.overlong,
+        times.overlong,
     )
 }

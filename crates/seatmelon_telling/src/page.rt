@@ -159,12 +159,13 @@ fn write_outside<W: Sink>(writer: &mut W, account: &Account<'_>) -> Result<(), F
     if account.window.is_none() {
         return Ok(());
     }
+    let notes = &account.reading.notes;
     tell!(
         writer,
         "  packets of the recorded channels before the window: ",
-        account.before,
+        notes.before,
         ", behind it: ",
-        account.behind,
+        notes.behind,
         "\n"
     )
 }
@@ -173,7 +174,7 @@ fn write_outside<W: Sink>(writer: &mut W, account: &Account<'_>) -> Result<(), F
 fn write_channels<W: Sink>(writer: &mut W, account: &Account<'_>) -> Result<(), Fault>
     ensures err { IfErr result (λ f. f ≡ write_failed) }
 {
-    let recorded = account.params.channel().iter();
+    let recorded = account.inputs.params.channel().iter();
     for (place, (channel, count)) in recorded.zip(account.channels).enumerate() {
         tell!(writer, "    on channel ", (place as u64).saturating_add(1))?;
         write_channel(writer, channel, *count)?;
@@ -185,10 +186,11 @@ fn write_channels<W: Sink>(writer: &mut W, account: &Account<'_>) -> Result<(), 
 fn write_counts<W: Sink>(writer: &mut W, account: &Account<'_>) -> Result<(), Fault>
     ensures err { IfErr result (λ f. f ≡ write_failed) }
 {
-    tell!(writer, "  records read: ", account.records, "\n")?;
-    write_left_out(writer, account.without)?;
+    let notes = &account.reading.notes;
+    tell!(writer, "  records read: ", notes.records, "\n")?;
+    write_left_out(writer, account.inputs.without)?;
     write_window(writer, account)?;
-    let packets = account.packets.len() as u64;
+    let packets = notes.packets.len() as u64;
     tell!(writer, "  packets of the connection: ", packets, "\n")?;
     write_channels(writer, account)?;
     write_ending(writer, account)?;
@@ -296,15 +298,16 @@ fn write_offers<W: Sink>(writer: &mut W, offers: &Offers) -> Result<(), Fault>
 pub fn write_judged<W: Sink>(writer: &mut W, account: &Account<'_>) -> Result<(), Fault>
     ensures err { IfErr result (λ f. f ≡ write_failed) }
 {
+    let params = account.inputs.params;
     write_words(writer, "\nWhat was judged:\n")?;
-    write_file(writer, "capture", &account.capture)?;
-    write_format(writer, account.format)?;
+    write_file(writer, "capture", &account.capture())?;
+    write_format(writer, account.reading.format)?;
     write_file(writer, "parameters", &account.parameters)?;
     write_certificate(writer, account)?;
     tell!(writer, "  program: ", PROGRAM, "\n")?;
     write_counts(writer, account)?;
-    write_params(writer, account.params)?;
-    write_quiet(writer, account.params)?;
+    write_params(writer, params)?;
+    write_quiet(writer, params)?;
     write_offers(writer, &account.offers)?;
     write_times(writer, account)
 }
@@ -350,7 +353,7 @@ pub fn write_no_packets<W: Sink>(writer: &mut W, account: &Account<'_>) -> Resul
 {
     write_words(writer, "no packet of the connection")?;
     write_records(writer, account, " in ")?;
-    write_without(writer, account.without)?;
+    write_without(writer, account.inputs.without)?;
     write_words(
         writer,
         "

@@ -32,7 +32,7 @@ fn write_meaning<W: Sink>(writer: &mut W, account: &Account<'_>, fault: Fault) -
 {
     match block_refused(account, fault) {
         Some(block) => write_parts(writer, &meaning_of_block(block)),
-        None => write_words(writer, meaning_in(fault, account.header)),
+        None => write_words(writer, meaning_in(fault, account.reading.header)),
     }
 }
 
@@ -40,13 +40,14 @@ fn write_meaning<W: Sink>(writer: &mut W, account: &Account<'_>, fault: Fault) -
 fn write_fault<W: Sink>(writer: &mut W, account: &Account<'_>, fault: Fault) -> Result<(), Fault>
     ensures err { IfErr result (λ f. f ≡ write_failed) }
 {
+    let header = account.reading.header;
     tell!(writer, "refused by ", fault.number, " ", fault.name())?;
-    write_without(writer, account.without)?;
+    write_without(writer, account.inputs.without)?;
     write_words(writer, ":\n  ")?;
     write_meaning(writer, account, fault)?;
-    write_link_type(writer, fault, account.header)?;
+    write_link_type(writer, fault, header)?;
     write_words(writer, "\n")?;
-    write_snapshot(writer, fault, account.header)
+    write_snapshot(writer, fault, header)
 }
 
 // Writes what may be the cause of a fault, first what is conspicuous, and what to look at next.
@@ -322,7 +323,7 @@ fn write_subject<W: Sink>(
 ) -> Result<(), Fault>
     ensures err { IfErr result (λ f. f ≡ write_failed) }
 {
-    let packets = account.packets;
+    let packets = account.packets();
     match &refusal.subject {
         Subject::Header => Ok(()),
         Subject::Record {
@@ -332,7 +333,7 @@ fn write_subject<W: Sink>(
             codes,
         } => {
             tell!(writer, "\nrecord ", *record)?;
-            write_time(writer, account.format, refusal.fault, *time)?;
+            write_time(writer, account.reading.format, refusal.fault, *time)?;
             write_record(writer, packets, refusal, packet.as_ref(), *codes)
         }
         Subject::Line(line) => { tell!(writer, "\nline ", *line, " of the certificate\n") }

@@ -264,7 +264,7 @@ fn write_fillings<W: Sink>(
         ", as a hypothesis: if the tap missed what follows, the rules can explain all packets\n"
     )?;
     for pdu in &first.pdus {
-        write_pdu(writer, account.packets, &hypothesis.supposition, pdu)?;
+        write_pdu(writer, account.packets(), &hypothesis.supposition, pdu)?;
     }
     write_taken(writer, &hypothesis.client, fillings.len())?;
     write_taken(writer, &hypothesis.server, fillings.len())?;
@@ -336,7 +336,7 @@ pub fn write_supposed<W: Sink>(writer: &mut W, account: &Account<'_>) -> Result<
     };
     match hypothesis.supposition.fillings.first() {
         Some(first) => write_fillings(writer, account, hypothesis, first),
-        None => write_in_vain(writer, account.packets, &hypothesis.supposition.gaps),
+        None => write_in_vain(writer, account.packets(), &hypothesis.supposition.gaps),
     }
 }
 

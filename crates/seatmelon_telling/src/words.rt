@@ -118,7 +118,7 @@ pub fn hint_of(account: &Account<'_>, refusal: &Refusal<'_>) -> Hint {
         return hint_on_block(block.reason);
     }
     match &refusal.subject {
-        Subject::Header if number == Fault::LINK_TYPE => hint_on_frames(account.header),
+        Subject::Header if number == Fault::LINK_TYPE => hint_on_frames(account.reading.header),
         Subject::Unexplained {
             is_exchanged: true,
             ..

@@ -3,8 +3,9 @@ use crate::{audit, show};
 use clap::builder::ValueParser;
 use clap::error::ErrorKind;
 use clap::{Arg, ArgAction, ArgMatches, Command, Error, value_parser};
-use seatmelon_commands::{After, Drafting, Explaining, Showing, SurveyForm, Surveying};
-use seatmelon_explain::{Extent, Form, Selection};
+use seatmelon_commands::{
+    After, Drafting, Explaining, Extent, Form, Selection, Showing, SurveyForm, Surveying,
+};
 use seatmelon_many::{Auditing, DraftingAll};
 use std::alloc::{AllocError, Global};
 

@@ -10,10 +10,10 @@ use rasta_pdu::{Fault, Params, Side, Sink, Source};
 use rasta_show::run_show;
 use rasta_verdict::{run_audit, run_check};
 use seatmelon_commands::{
-    Answer, Explaining, Inputs, STANDARD_OUTPUT, explain_of, params_in, status_of_outcome,
-    survey_of, write_answer,
+    Answer, Explaining, Extent, Form, Inputs, explain_of, status_of_outcome, survey_of,
+    write_answer,
 };
-use seatmelon_explain::{Extent, Form};
+use seatmelon_failures::{STANDARD_OUTPUT, params_in};
 use seatmelon_many::{Auditing, Named, audit_of};
 use seatmelon_tally::status_of;
 use std::alloc::Global;

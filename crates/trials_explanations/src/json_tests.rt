@@ -6,7 +6,7 @@ use crate::explain_tests::{params_in, text_by, written};
 use rasta_pcap::devices::FailAt;
 use rasta_pcap::{Counted, Sink};
 use rasta_pdu::{Params, Quiet, QuietEnd};
-use seatmelon_explain::{Extent, Form};
+use seatmelon_commands::{Extent, Form};
 use std::alloc::Global;
 use std::process::Abort;
 use std::str;

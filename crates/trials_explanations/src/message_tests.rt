@@ -4,7 +4,7 @@ use crate::cases::explained;
 use crate::explain_tests::told;
 use rasta_pcap::Counted;
 use rasta_pdu::{Body, Kind, Params, PduParts, Side, encode};
-use seatmelon_explain::{Extent, Form, Outcome, Selection};
+use seatmelon_commands::{Extent, Form, Outcome, Selection};
 use std::alloc::Global;
 use std::process::Abort;
 use std::str;

@@ -3,8 +3,9 @@ use crate::cases::{Case, MARK, case_in, surveys};
 use crate::files::file_with;
 use rasta_pcap::devices::{FailAt, Pieces};
 use rasta_pcap::{Counted, Fault, Sink, Source};
+use seatmelon_capture::write_fault;
 use seatmelon_pcapng::{Format, Reason, Refusal, Remarks};
-use seatmelon_survey::{Connection, Survey, survey, write_fault};
+use seatmelon_survey::{Connection, Survey, survey};
 use std::alloc::Global;
 use trials_rows::file_of;
 

@@ -1,9 +1,9 @@
 //! What explanations and audits come to.
-use super::made::{Broken, NO_RECORD, one_request};
+use super::made::{Broken, NO_RECORD, one_request, told};
 use super::parameters::{OTHER_PARAMETERS, PARAMETERS};
 use rasta_pcap::devices::{FailAt, Pieces};
-use seatmelon_commands::{Explaining, Inputs, explain_of, params_in, status, status_of_outcome};
-use seatmelon_explain::{Extent, Form};
+use seatmelon_commands::{Explaining, Extent, Form, Inputs, explain_of, status_of_outcome};
+use seatmelon_failures::params_in;
 use seatmelon_many::{Auditing, Named, audit_of};
 use seatmelon_tally::status_of;
 use std::alloc::Global;
@@ -37,7 +37,7 @@ fn explained<D: Read + Drop, W: Write + Drop>(alloc: Global, file: D, device: W)
             let (outcome, kind) = (explanation.outcome, explanation.kind);
             format!(in alloc; "{code} {outcome:?} {kind:?}").ok()
         }
-        Err(failure) => format!(in alloc; "{} {failure}", status(&failure)).ok(),
+        Err(failure) => told(alloc, failure),
     }
 }
 
@@ -110,7 +110,7 @@ fn audited<D: Read + Drop>(alloc: Global, file: D) -> Option<String> {
             let text = str::from_utf8(&text).ok()?;
             format!(in alloc; "{code} {text}").ok()
         }
-        Err(failure) => format!(in alloc; "{} {failure}", status(&failure)).ok(),
+        Err(failure) => told(alloc, failure),
     }
 }
 

@@ -1,9 +1,10 @@
 //! Surveys of captures that are refused, and over devices that fail.
 ghost use Rattle.std.specs.Prelude.{None};
 
-use super::made::{Broken, NO_RECORD, Refused};
+use super::made::{Broken, NO_RECORD, Refused, told};
 use rasta_pcap::devices::{FailAt, Pieces};
-use seatmelon_commands::{Answer, STANDARD_OUTPUT, is_told, status, survey_of, write_answer};
+use seatmelon_commands::{Answer, survey_of, write_answer};
+use seatmelon_failures::{Failure, STANDARD_OUTPUT};
 use std::alloc::Global;
 use std::io;
 use std::io::{Read, Write};
@@ -50,8 +51,7 @@ const REFUSED: [Refused; 8] = [
 
 // Why a reader's survey fails, behind the status of the program; none where it doesn't.
 fn failure_text<D: Read + Drop>(alloc: Global, file: D) -> Option<String> {
-    let failure = survey_of(alloc, "c", file, None).err()?;
-    format!(in alloc; "{} {failure}", status(&failure)).ok()
+    told(alloc, survey_of(alloc, "c", file, None).err()?)
 }
 
 // Whether a file's survey fails so, in one piece and byte by byte.
@@ -120,7 +120,7 @@ fn a_reader_that_fails_at_each_call(rt: HostRuntime) {
 fn unwritten_text(alloc: Global, device: FailAt<Vec<u8>>) -> Option<String> {
     let survey = survey_of(alloc, "c", NO_RECORD.as_slice(), None).ok()?;
     let failure = write_answer(alloc, STANDARD_OUTPUT, &Answer::Survey(&survey), device).err()?;
-    format!(in alloc; "{} {failure}", status(&failure)).ok()
+    told(alloc, failure)
 }
 
 // Whether a survey can't be written there, for this reason.
@@ -148,7 +148,8 @@ impl Write for Closed {
 fn closed_pipe(alloc: Global) -> Option<(u8, bool)> {
     let survey = survey_of(alloc, "c", NO_RECORD.as_slice(), None).ok()?;
     let failure = write_answer(alloc, STANDARD_OUTPUT, &Answer::Survey(&survey), Closed).err()?;
-    Some((status(&failure), is_told(&failure)))
+    let failure = Failure::from(failure);
+    Some((failure.status(), failure.is_told()))
 }
 
 #[test]

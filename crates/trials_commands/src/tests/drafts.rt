@@ -1,10 +1,10 @@
 //! Drafts, and captures in the format of classic ones.
-use super::made::{Broken, NO_RECORD, one_request, pcapng_of};
+use super::made::{Broken, NO_RECORD, one_request, pcapng_of, told};
 use rasta_pcap::devices::{FailAt, Pieces};
 use seatmelon_commands::{
-    FileKind, Refusal, STANDARD_OUTPUT, convert_of, draft_in, status, status_of_format,
-    status_of_survey, survey_of, write_answer,
+    convert_of, draft_in, status_of_format, status_of_survey, survey_of, write_answer,
 };
+use seatmelon_failures::{FileKind, Refusal, STANDARD_OUTPUT};
 use std::alloc::Global;
 use std::io::{Read, Write};
 use std::process::Abort;
@@ -16,7 +16,9 @@ fn draft_text(alloc: Global, file: &[u8], number: u64) -> Option<Vec<u8>> {
     let mut text = Vec::new(alloc);
     match draft_in(alloc, "c", &survey, number) {
         Ok(answer) => write_answer(alloc, STANDARD_OUTPUT, &answer, &mut text).ok()?,
-        Err(failure) => write!(text, "{} {failure}", status(&failure)).ok()?,
+        Err(failure) => text
+            .extend_from_slice(told(alloc, failure)?.as_bytes())
+            .ok()?,
     }
     Some(text)
 }
@@ -91,7 +93,9 @@ fn conversion<D: Read + Drop>(alloc: Global, file: D) -> Option<Vec<u8>> {
     let mut bytes = Vec::new(alloc);
     if let Err(failure) = convert_of(alloc, "c", file, &mut bytes) {
         bytes.clear();
-        write!(bytes, "{} {failure}", status(&failure)).ok()?;
+        bytes
+            .extend_from_slice(told(alloc, failure)?.as_bytes())
+            .ok()?;
     }
     Some(bytes)
 }
@@ -122,8 +126,10 @@ fn is_converted<D: Read + Drop>(alloc: Global, file: D, wanted: &[u8]) -> Option
 // Why the one request can't be written there, behind the program's status.
 fn unconverted_text(alloc: Global, device: FailAt<Vec<u8>>) -> Option<String> {
     let file = one_request(alloc)?;
-    let failure = convert_of(alloc, "c", file.as_slice(), device).err()?;
-    format!(in alloc; "{} {failure}", status(&failure)).ok()
+    told(
+        alloc,
+        convert_of(alloc, "c", file.as_slice(), device).err()?,
+    )
 }
 
 // Whether the one request, which is a classic capture, is converted to itself.

@@ -1,6 +1,7 @@
 //! Small captures, and a device that fails.
 ghost use Rattle.std.specs.Prelude.{None};
 
+use seatmelon_failures::Failure;
 use std::alloc::Global;
 use std::io;
 use std::io::Read;
@@ -27,6 +28,12 @@ pub fn pcapng_of(alloc: Global, behind: &str) -> Option<Vec<u8>> {
 pub struct Refused {
     pub file: &'static [u8],
     pub text: &'static str,
+}
+
+/// The text of a failure, behind the program's status.
+pub fn told<F: Into<Failure>>(alloc: Global, failure: F) -> Option<String> {
+    let failure = failure.into();
+    format!(in alloc; "{} {failure}", failure.status()).ok()
 }
 
 /// A device that the system refuses with this number.

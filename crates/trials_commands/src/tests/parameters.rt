@@ -1,9 +1,8 @@
 //! Parameter files that are refused, and those that a draft keeps.
-use super::made::{Broken, NO_RECORD, Refused, one_request};
+use super::made::{Broken, NO_RECORD, Refused, one_request, told};
 use rasta_pcap::devices::Pieces;
-use seatmelon_commands::{
-    Draft, judge_certificate, of_folder, params_in, status, survey_of, whole_of, with_params,
-};
+use seatmelon_commands::{Draft, survey_of, whole_of, with_params};
+use seatmelon_failures::{InputFailure, judge_certificate, params_in};
 use std::alloc::Global;
 use std::process::Abort;
 
@@ -125,9 +124,9 @@ const NO_CERTIFICATES: [Refused; 5] = [
 
 // Whether these parameters are refused so.
 fn is_refused_so(alloc: Global, refused: &Refused) -> Option<bool> {
-    let failure = params_in(alloc, "p", refused.file).err()?;
+    let failure = InputFailure::from(params_in(alloc, "p", refused.file).err()?);
     let text = failure.to_string(alloc).ok()?;
-    Some(text.as_str() == refused.text && status(&failure) == 2)
+    Some(text.as_str() == refused.text && failure.status() == 2)
 }
 
 #[test]
@@ -144,9 +143,9 @@ fn refused_parameters(rt: HostRuntime) {
 
 // Whether these parameters, which a folder holds, are refused so.
 fn is_refused_in_folder(alloc: Global, refused: &Refused) -> Option<bool> {
-    let failure = of_folder(params_in(alloc, "p", refused.file).err()?);
+    let failure = InputFailure::from(params_in(alloc, "p", refused.file).err()?).of_folder();
     let text = failure.to_string(alloc).ok()?;
-    Some(text.as_str() == refused.text && status(&failure) == 2)
+    Some(text.as_str() == refused.text && failure.status() == 2)
 }
 
 #[test]
@@ -165,10 +164,7 @@ fn refused_files_of_folders(rt: HostRuntime) {
 fn is_no_certificate(alloc: Global, refused: &Refused) -> Option<bool> {
     match judge_certificate(alloc, "p", refused.file) {
         Ok(()) => Some(refused.text.is_empty()),
-        Err(failure) => {
-            let text = format!(in alloc; "{} {failure}", status(&failure)).ok()?;
-            Some(text.as_str() == refused.text)
-        }
+        Err(failure) => Some(told(alloc, failure)?.as_str() == refused.text),
     }
 }
 
@@ -225,7 +221,7 @@ fn unkept_text(alloc: Global, parameters: &[u8]) -> Option<String> {
     };
     match with_params(alloc, "p", 1, draft, &params) {
         Ok(_) => String::from_str(alloc, "").ok(),
-        Err(failure) => format!(in alloc; "{} {failure}", status(&failure)).ok(),
+        Err(failure) => told(alloc, failure),
     }
 }
 

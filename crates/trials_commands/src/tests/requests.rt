@@ -1,6 +1,7 @@
 //! What the command line asks for.
-use seatmelon_commands::{After, Drafting, Explaining, Showing, SurveyForm, Surveying};
-use seatmelon_explain::{Extent, Form};
+use seatmelon_commands::{
+    After, Drafting, Explaining, Extent, Form, Showing, SurveyForm, Surveying,
+};
 use seatmelon_many::{Auditing, DraftingAll};
 use seatmelon_words::{Request, parse};
 use std::alloc::Global;

@@ -1,4 +1,4 @@
-use Rattle.std.proofs.Common.{◌≡◌, ◌∙◌, Bool, ap, arith, cond, refl, sym, true}
+use Rattle.std.proofs.Common.{◌∙◌, Bool, ap, arith, cond, refl, sym}
 use Rattle.rasta_pcap.specs.Capture.{Numbered}
 use Rattle.rasta_pdu.specs.Params.{Parameters}
 use Rattle.rasta_check.specs.Capture.Reading.{packet_at}
