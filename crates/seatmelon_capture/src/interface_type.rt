@@ -1,4 +1,4 @@
-//! Link types of the interfaces of a pcapng file, in words.
+//! Link types of the interfaces of a pcapng file, in words and as JSON.
 ghost use Rattle.rasta_pcap.specs.Devices.{AsWritten};
 
 use crate::link_type::link_type_name;
@@ -44,4 +44,20 @@ pub fn write_link_types<W: Sink>(writer: &mut W, format: Format) -> Result<(), F
 {
     write_interface(writer, format.other_link_type(), "of no connection")?;
     write_interface(writer, format.cooked_link_type(), AS_ETHERNET)
+}
+
+/// Writes them as members of a JSON object that has others before: `other_link_type` and `cooked_link_type`, each where the
+/// format tells it.
+///
+/// Refused by [`Fault::WRITE_FAILED`] alone.
+pub fn write_link_types_json<W: Sink>(writer: &mut W, format: Format) -> Result<(), Fault>
+    ensures written { AsWritten W.failure_count result writer.old writer.new }
+{
+    if let Some(link_type) = format.other_link_type() {
+        tell!(writer, ",\"other_link_type\":", link_type)?;
+    }
+    match format.cooked_link_type() {
+        Some(link_type) => tell!(writer, ",\"cooked_link_type\":", link_type),
+        None => Ok(()),
+    }
 }

@@ -12,6 +12,6 @@ mod link_type;
 pub use fault_json::write_fault_json;
 pub use fault_words::{FaultWords, FileRefusal, words_of_fault, write_fault};
 pub use header::{FileHeader, header_in};
-pub use interface_type::{AS_ETHERNET, write_link_types};
+pub use interface_type::{AS_ETHERNET, write_link_types, write_link_types_json};
 pub use keeping::Keeping;
 pub use link_type::link_type_name;

@@ -168,7 +168,7 @@ interfaces_after interfaces (turns.Cooked found kind) = interfaces
 interfaces_after interfaces (turns.Foreign found link_type) = interfaces
 interfaces_after interfaces turns.Other = interfaces
 
--- the link type of a packet, if it isn't that of Ethernet
+-- the link type that a packet shows: one whose packets are passed over, or one with cooked headers
 abbrev pub link_types_of : Turn → LinkTypes
 link_types_of turns.Section = no_link_types
 link_types_of (turns.Interface i) = no_link_types

@@ -7,11 +7,11 @@ use crate::report::{EndNames, names_in};
 use rasta_pcap::{CaptureTime, Fault, Sink};
 use rasta_pdu::Kind;
 use rasta_udp::Channel;
+use seatmelon_capture::write_link_types_json;
 use seatmelon_connections::{
     ChannelCounts, Connection, Ending, Gap, LateCopies, NumberCounts, Party,
 };
 use seatmelon_packets::{FitCount, Lengths, Offer};
-use seatmelon_pcapng::Format;
 use seatmelon_text::json::write_long;
 use seatmelon_text::{tell, write_words};
 
@@ -309,19 +309,6 @@ fn write_snapshot<W: Sink>(writer: &mut W, survey: &Survey) -> Result<(), Fault>
     }
 }
 
-// Writes which link types interfaces of the file have, if its format tells any beside that of Ethernet.
-fn write_link_types<W: Sink>(writer: &mut W, format: Format) -> Result<(), Fault>
-    ensures written { AsWritten W.failure_count result writer.old writer.new }
-{
-    if let Some(link_type) = format.other_link_type() {
-        tell!(writer, ",\"other_link_type\":", link_type)?;
-    }
-    match format.cooked_link_type() {
-        Some(link_type) => tell!(writer, ",\"cooked_link_type\":", link_type),
-        None => Ok(()),
-    }
-}
-
 // Writes how much was read.
 fn write_summary<W: Sink>(writer: &mut W, survey: &Survey) -> Result<(), Fault>
     ensures written { AsWritten W.failure_count result writer.old writer.new }
@@ -332,7 +319,7 @@ fn write_summary<W: Sink>(writer: &mut W, survey: &Survey) -> Result<(), Fault>
     let passed_over = records.saturating_sub(survey.packets());
     write_count(writer, ",\"passed_over\":", passed_over)?;
     write_count(writer, ",\"left_out\":", survey.left_out())?;
-    write_link_types(writer, survey.format())?;
+    write_link_types_json(writer, survey.format())?;
     write_count(writer, ",\"captured_cut\":", survey.cuts().datagrams())?;
     write_snapshot(writer, survey)
 }

@@ -9,7 +9,7 @@ use rasta_pcap::{CaptureTime, Fault, Side, Sink};
 use seatmelon_audit::{
     Answer, Audit, Before, Connection, Conveyed, Explained, Refusal, Share, ShownOf, Subject,
 };
-use seatmelon_capture::write_fault_json;
+use seatmelon_capture::{write_fault_json, write_link_types_json};
 use seatmelon_pcapng::Format;
 use seatmelon_text::json::{write_long, write_string};
 use seatmelon_text::{tell, write_words};
@@ -218,19 +218,6 @@ fn write_connections<W: Sink>(writer: &mut W, names: &[String], audit: &Audit) -
     Ok(())
 }
 
-// Writes which link types interfaces of a file in this format have, if the format tells any beside that of Ethernet.
-fn write_link_types<W: Sink>(writer: &mut W, format: Format) -> Result<(), Fault>
-    ensures err { IfErr result (λ f. f ≡ write_failed) }
-{
-    if let Some(link_type) = format.other_link_type() {
-        tell!(writer, ",\"other_link_type\":", link_type)?;
-    }
-    match format.cooked_link_type() {
-        Some(link_type) => tell!(writer, ",\"cooked_link_type\":", link_type),
-        None => Ok(()),
-    }
-}
-
 /// Writes an audit of these files, the capture in this format, as one JSON object and a line feed.
 pub fn write_audit_json<W: Sink>(
     writer: &mut W,
@@ -254,6 +241,6 @@ pub fn write_audit_json<W: Sink>(
         ",\"fault\":"
     )?;
     write_fault_json(writer, audit.fault, format)?;
-    write_link_types(writer, format)?;
+    write_link_types_json(writer, format)?;
     write_words(writer, "}\n")
 }

@@ -13,6 +13,7 @@ use crate::json_refusal::write_refusal;
 use crate::json_supposed::{verdict_with, write_supposed};
 use rasta_pcap::{Fault, Sink};
 use seatmelon_account::{Account, File, Verdict};
+use seatmelon_capture::write_link_types_json;
 use seatmelon_pcapng::Format;
 use seatmelon_reading::{ChannelCount, Window};
 use seatmelon_text::json::{write_long, write_string};
@@ -44,13 +45,7 @@ fn write_format<W: Sink>(writer: &mut W, format: Format) -> Result<(), Fault>
         return Ok(());
     }
     write_words(writer, ",\"format\":\"pcapng\"")?;
-    if let Some(link_type) = format.other_link_type() {
-        tell!(writer, ",\"other_link_type\":", link_type)?;
-    }
-    match format.cooked_link_type() {
-        Some(link_type) => tell!(writer, ",\"cooked_link_type\":", link_type),
-        None => Ok(()),
-    }
+    write_link_types_json(writer, format)
 }
 
 // Writes name, SHA-256 and format of the capture.
