@@ -4,7 +4,7 @@ ghost use Rattle.seatmelon_account.specs.Outcomes.{NamesRecord};
 ghost use Rattle.seatmelon_account.specs.declared.outcome.Outcome.TheVariants.{Explained};
 ghost use Rattle.seatmelon_commands.specs.Explained.{IsCaptureExplained, IsGivenFor};
 
-use crate::explain::{Form, explain};
+use crate::explanation::{Form, explain};
 use crate::opening::open_told;
 use crate::output::{failed, flushed, output_to};
 use crate::reading::whole_file;

@@ -4,8 +4,8 @@
 mod answer;
 mod converting;
 mod drafting;
-mod explain;
 mod explaining;
+mod explanation;
 mod opening;
 mod output;
 mod progress;
@@ -20,10 +20,10 @@ pub use converting::{
     convert_to_ethernet, status_of_format,
 };
 pub use drafting::{After, Drafting, draft_file, draft_in, tell_fault, with_params};
-pub use explain::{Form, explain};
 pub use explaining::{
     Explaining, Explanation, Inputs, advise, explain_files, explain_of, status_of_outcome,
 };
+pub use explanation::{Form, explain};
 pub use opening::{CaptureInput, open_capture, open_told};
 pub use output::{Output, finish, output_to};
 pub use progress::Progress;

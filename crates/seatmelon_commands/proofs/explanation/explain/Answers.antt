@@ -1,5 +1,5 @@
 use Rattle.seatmelon_commands.proofs.Telling.{outcome_explained, outcome_judged, outcome_told}
-use Rattle.seatmelon_commands.proofs.explain.explain.Goals as goal
+use Rattle.seatmelon_commands.proofs.explanation.explain.Goals as goal
 
 pub returns-clause-explained : goal.returns-clause-explained
 returns-clause-explained g c = outcome_explained c.args.inputs.now c.in_ok-reading.reading _ c.tell.result c.in_ok-reading.ensures.read c.tell.ensures.told
